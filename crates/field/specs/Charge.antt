@@ -1,0 +1,60 @@
+-- "Charge: 0 with no fault under 80 bytes or for two blanks; else a digit, then `+` or `-`. Faults: 3 charge not a digit (78, 1); 4 charge
+-- unsigned (79, 1)." The remark number's rule: "5 remark number not in the table (7, 3)".
+use Prim.Native.Nat.{ℕ, _-_, _+_}
+use mathlib.Core.Bool.{Bool, cond, not, _&&_, _||_}
+use mathlib.Core.List.{List, [], _∷_}
+use lib.ListN.{length, getD}
+use lib.Dec.{eqb}
+use lib.IntN.{ℤ, pos}
+use Rattle.number.specs.Whole.{digit, withSign}
+use Rattle.lexitem.specs.Columns.{partOf}
+use Rattle.lexitem.specs.Faults.{allNoted}
+use Rattle.lexitem.specs.declared.columns.Columns.{Columns}
+use Rattle.lexitem.specs.declared.fault.FaultKind.the-variants.{NoDigit, NoSign, Unknown}
+use Rattle.lexitem.specs.declared.fault.Fault.{Fault}
+use Rattle.lexitem.specs.declared.fault.Faults.{Faults}
+use Rattle.field.specs.Number.{faultAt}
+use Rattle.field.specs.declared.number_field.GotSigned.{GotSigned}
+
+unfoldable pub bothBlank : ℕ → ℕ → Bool
+bothBlank a b = eqb a 32 && eqb b 32
+
+abbrev pub isSign : ℕ → Bool
+isSign b = eqb b 43 || eqb b 45
+
+-- columns that the line reaches, a digit's and a sign's, and not both blank
+unfoldable pub charged : List ℕ → Bool
+charged part = eqb (length part) 2 && not (bothBlank (getD part 0 0) (getD part 1 0))
+
+-- the charge that a digit and a sign say, 0 for anything else
+unfoldable pub chargeOf : ℕ → ℕ → ℤ
+chargeOf d s = cond (digit d && isSign s) (withSign (eqb s 45) (d - 48)) (pos 0)
+
+unfoldable pub chargeFaultsOf : ℕ → ℕ → ℕ → List Fault
+chargeFaultsOf d s start =
+    cond (digit d)
+    (cond (isSign s) [] (record { kind = NoSign; place = start + 1; length = 1 } ∷ []))
+    (record { kind = NoDigit; place = start; length = 1 } ∷ [])
+
+unfoldable pub chargeAt : List ℕ → Columns → ℤ
+chargeAt l at = cond (charged (partOf l at)) (chargeOf (getD (partOf l at) 0 0) (getD (partOf l at) 1 0)) (pos 0)
+
+unfoldable pub chargeFaults : List ℕ → Columns → List Fault
+chargeFaults l at = cond (charged (partOf l at)) (chargeFaultsOf (getD (partOf l at) 0 0) (getD (partOf l at) 1 0) (at .start)) []
+
+-- a number is valid if its byte in the remark table isn't 0
+unfoldable pub isKnown : List ℕ → ℕ → Bool
+isKnown remarks n = not (eqb (getD remarks n 0) 0)
+
+unfoldable pub knownFaults : List ℕ → ℕ → Columns → List Fault
+knownFaults remarks n at = cond (isKnown remarks n) [] (faultAt Unknown at ∷ [])
+
+-- ---- the charge beside the faults with its own noted, and the faults with the look-up's noted
+abbrev pub gotCharge : List ℕ → Columns → Faults → GotSigned
+gotCharge l at fs = record { value = chargeAt l at; faults = allNoted fs (chargeFaults l at) }
+
+abbrev pub gotChargeOf : ℕ → ℕ → ℕ → Faults → GotSigned
+gotChargeOf d s start fs = record { value = chargeOf d s; faults = allNoted fs (chargeFaultsOf d s start) }
+
+abbrev pub knownNoted : List ℕ → ℕ → Columns → Faults → Faults
+knownNoted remarks n at fs = allNoted fs (knownFaults remarks n at)

@@ -1,0 +1,132 @@
+-- Number fields of a line. "1 line ends before the field's last column; 2 text of the wrong sort. Place and length are the field's columns.
+-- Defaults: 0 for U, I, 0.0 for R but 1.0 at 54..60." Columns that the line doesn't reach hold the empty part, which says no number, so a
+-- field's value needs no test of its own.
+use Prim.Native.Nat.{ℕ, _-_, min}
+use mathlib.Core.Bool.{Bool, true, false, cond}
+use mathlib.Core.List.{List, [], _∷_}
+use lib.ListN.{length}
+use lib.Dec.{ltb}
+use lib.IntN.{ℤ, pos}
+use lib.Ieee.{Float, fin}
+use Rattle.number.specs.Whole.{unsignedOf, signedOf}
+use Rattle.number.specs.Real.{realOf, tenThousandthsOf}
+use Rattle.number.specs.declared.whole.Unsigned.{Unsigned}
+use Rattle.number.specs.declared.whole.Unsigned.the-variants.{U, NotU}
+use Rattle.number.specs.declared.whole.Signed.{Signed}
+use Rattle.number.specs.declared.whole.Signed.the-variants.{I, NotI}
+use Rattle.number.specs.declared.real.Real.{Real}
+use Rattle.number.specs.declared.real.Real.the-variants.{R, NotR}
+use Rattle.lexitem.specs.Columns.{partOf, restOf}
+use Rattle.lexitem.specs.declared.columns.Columns.{Columns}
+use Rattle.lexitem.specs.declared.fault.Sort.{Sort}
+use Rattle.lexitem.specs.declared.fault.Sort.the-variants.{Unsigned as USort, Signed as ISort, Real as RSort}
+use Rattle.lexitem.specs.declared.fault.FaultKind.{FaultKind}
+use Rattle.lexitem.specs.declared.fault.FaultKind.the-variants.{Short, Wrong}
+use Rattle.lexitem.specs.declared.fault.Fault.{Fault}
+use Rattle.lexitem.specs.declared.fault.Faults.{Faults}
+use Rattle.lexitem.specs.Faults.{allNoted}
+use Rattle.field.specs.declared.number_field.GotUnsigned.{GotUnsigned}
+use Rattle.field.specs.declared.number_field.GotSigned.{GotSigned}
+use Rattle.field.specs.declared.number_field.GotReal.{GotReal}
+
+-- 0.0 and 1.0
+abbrev pub zeroReal : Float
+zeroReal = fin false 0 (pos 0)
+
+abbrev pub oneReal : Float
+oneReal = fin false 1 (pos 0)
+
+-- what is taken from an answer, and whether it is a number
+abbrev pub orU : Unsigned → ℕ
+orU (U n) = n
+orU NotU = 0
+
+abbrev pub isU : Unsigned → Bool
+isU (U n) = true
+isU NotU = false
+
+abbrev pub orI : Signed → ℤ
+orI (I n) = n
+orI NotI = pos 0
+
+abbrev pub isI : Signed → Bool
+isI (I n) = true
+isI NotI = false
+
+abbrev pub orR : Float → Real → Float
+orR default (R x) = x
+orR default NotR = default
+
+abbrev pub isR : Real → Bool
+isR (R x) = true
+isR NotR = false
+
+-- a fault of the columns
+abbrev pub faultAt : FaultKind → Columns → Fault
+faultAt kind at = record { kind = kind; place = at .start; length = at .end - at .start }
+
+abbrev pub shortAt : Columns → Fault
+shortAt at = faultAt Short at
+
+abbrev pub wrongAt : Sort → Columns → Fault
+wrongAt sort at = faultAt (Wrong sort) at
+
+-- the faults of a number field: 1 where the line doesn't reach, 2 where the text is no number of the sort
+unfoldable pub numberFaults : List ℕ → Columns → Sort → Bool → List Fault
+numberFaults l at sort fine =
+    cond (ltb (length l) (at .end)) (shortAt at ∷ []) (cond fine [] (wrongAt sort at ∷ []))
+
+-- U
+unfoldable pub unsignedAt : List ℕ → Columns → ℕ
+unsignedAt l at = orU (unsignedOf (partOf l at))
+
+abbrev pub unsignedFaults : List ℕ → Columns → List Fault
+unsignedFaults l at = numberFaults l at USort (isU (unsignedOf (partOf l at)))
+
+-- I
+unfoldable pub signedAt : List ℕ → Columns → ℤ
+signedAt l at = orI (signedOf (partOf l at))
+
+abbrev pub signedFaults : List ℕ → Columns → List Fault
+signedFaults l at = numberFaults l at ISort (isI (signedOf (partOf l at)))
+
+-- R, with its default
+unfoldable pub realAt : List ℕ → Columns → Float → Float
+realAt l at default = orR default (realOf (partOf l at))
+
+abbrev pub realFaults : List ℕ → Columns → List Fault
+realFaults l at = numberFaults l at RSort (isR (realOf (partOf l at)))
+
+-- one of ANISOU's six: I, made a double and divided by 10000.0
+unfoldable pub factorAt : List ℕ → Columns → Float
+factorAt l at = orR zeroReal (tenThousandthsOf (partOf l at))
+
+abbrev pub factorFaults : List ℕ → Columns → List Fault
+factorFaults l at = numberFaults l at ISort (isR (tenThousandthsOf (partOf l at)))
+
+-- U from a column to the end of the line. A fault's length has 16 bits, which every line that is read keeps within
+abbrev pub restColumns : List ℕ → ℕ → Columns
+restColumns l start = record { start = start; end = min (length l) 65535 }
+
+unfoldable pub unsignedFrom : List ℕ → ℕ → ℕ
+unsignedFrom l start = orU (unsignedOf (restOf l start))
+
+unfoldable pub unsignedFromFaults : List ℕ → ℕ → List Fault
+unsignedFromFaults l start =
+    cond (isU (unsignedOf (restOf l start))) [] (wrongAt USort (restColumns l start) ∷ [])
+
+-- ---- a field's value beside the faults with its own noted
+abbrev pub gotUnsigned : List ℕ → Columns → Faults → GotUnsigned
+gotUnsigned l at fs = record { value = unsignedAt l at; faults = allNoted fs (unsignedFaults l at) }
+
+abbrev pub gotSigned : List ℕ → Columns → Faults → GotSigned
+gotSigned l at fs = record { value = signedAt l at; faults = allNoted fs (signedFaults l at) }
+
+abbrev pub gotReal : List ℕ → Columns → Float → Faults → GotReal
+gotReal l at default fs = record { value = realAt l at default; faults = allNoted fs (realFaults l at) }
+
+abbrev pub gotFactor : List ℕ → Columns → Faults → GotReal
+gotFactor l at fs = record { value = factorAt l at; faults = allNoted fs (factorFaults l at) }
+
+abbrev pub gotUnsignedFrom : List ℕ → ℕ → Faults → GotUnsigned
+gotUnsignedFrom l start fs = record { value = unsignedFrom l start; faults = allNoted fs (unsignedFromFaults l start) }

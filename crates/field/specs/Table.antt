@@ -1,0 +1,70 @@
+-- The fields of a kind, in the order of its faults. "Faults stand in ascending columns, except that ATOM puts 30..66 and ANISOU 28..70 first.
+-- Fault 5 follows a fault of the remark number itself." A kind's table has every field of its row in 01, those that can't fault too, and each
+-- entry gives at most one fault.
+use Prim.Native.Nat.{ℕ}
+use mathlib.Core.Bool.{Bool}
+use mathlib.Core.List.{List, [], _∷_, _++_}
+use lib.Ieee.{Float}
+use Rattle.lexitem.specs.Faults.{allNoted}
+use Rattle.lexitem.specs.declared.columns.Columns.{Columns}
+use Rattle.lexitem.specs.declared.fault.Fault.{Fault}
+use Rattle.lexitem.specs.declared.fault.Faults.{Faults}
+use Rattle.field.specs.Number.{unsignedAt, unsignedFaults, signedFaults, realFaults, factorFaults, unsignedFromFaults}
+use Rattle.field.specs.Text.{textFaults, characterFaults}
+use Rattle.field.specs.Charge.{chargeFaults, knownFaults}
+
+-- a line and the remark table that is lent beside it
+pub record Given : Type 0 where
+  pub line : List ℕ
+  pub remarks : List ℕ
+
+pub data Entry : Type 0 where
+  -- U, I, R with its default, T and C in their columns
+  u : Columns → Entry
+  i : Columns → Entry
+  r : Columns → Float → Entry
+  t : Columns → Entry
+  c : ℕ → Entry
+  -- a C whose blank means absent
+  c? : ℕ → Entry
+  -- one of ANISOU's six
+  a : Columns → Entry
+  -- U from a column to the line's end
+  u-rest : ℕ → Entry
+  -- X, and texts that end with the line
+  x : Columns → Entry
+  t-rest : ℕ → Entry
+  charge : Columns → Entry
+  -- the number in the columns is in the remark table
+  known : Columns → Entry
+  -- a byte that is looked at, a number that isn't written, and SEQRES's triples
+  given : ℕ → Entry
+  unwritten : ℕ → Entry
+  triples : ℕ → Entry
+
+abbrev pub faultsBy : Given → Entry → List Fault
+faultsBy g (u at) = unsignedFaults (g .line) at
+faultsBy g (i at) = signedFaults (g .line) at
+faultsBy g (r at default) = realFaults (g .line) at
+faultsBy g (t at) = textFaults (g .line) at
+faultsBy g (c column) = characterFaults (g .line) column
+faultsBy g (c? column) = characterFaults (g .line) column
+faultsBy g (a at) = factorFaults (g .line) at
+faultsBy g (u-rest start) = unsignedFromFaults (g .line) start
+faultsBy g (x at) = []
+faultsBy g (t-rest start) = []
+faultsBy g (charge at) = chargeFaults (g .line) at
+faultsBy g (known at) = knownFaults (g .remarks) (unsignedAt (g .line) at) at
+faultsBy g (given column) = []
+faultsBy g (unwritten column) = []
+faultsBy g (triples start) = []
+
+-- the faults of a table, in its order
+abbrev pub tableFaults : Given → List Entry → List Fault
+tableFaults g [] = []
+tableFaults g (e ∷ rest) = faultsBy g e ++ tableFaults g rest
+
+-- the same, noted one field after the other as a reader goes
+abbrev pub tableNoted : Given → List Entry → Faults → Faults
+tableNoted g [] fs = fs
+tableNoted g (e ∷ rest) fs = tableNoted g rest (allNoted fs (faultsBy g e))

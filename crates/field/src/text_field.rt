@@ -1,0 +1,108 @@
+// Text fields, and characters: `parse_char` of lexer.rs. A character is needed apart since trimming could leave nothing of it.
+ghost use mathlib.Core.Path.{_≡_};
+ghost use Prim.Native.Nat.{_≤_};
+ghost use Rattle.number.specs.Trim.{spanOf};
+ghost use Rattle.field.specs.Text as specs;
+
+use lexitem::columns::{Columns, from_column};
+use lexitem::fault::{Fault, FaultKind, Faults};
+use lexitem::text::{Character, Text};
+use number::trim::{Span, kept_length, read_text};
+
+use crate::number_field::{ends_before, short};
+
+pub struct GotText {
+    pub value: Text,
+    pub faults: Faults,
+}
+
+pub struct GotCharacter {
+    pub value: Character,
+    pub faults: Faults,
+}
+
+// Where the trimmed text of a part lies in the line, the part starting there at a column.
+fn shifted(start: usize, part: &[u8]) -> Text
+    requires { ⌜ start ≤ 65535 ⌝ }
+    ensures { λ r. ⌜ r ≡ specs.shifted start (spanOf (now (part .entry))) ⌝ }
+{
+    let span = read_text(part);
+    if span.length == 0 {
+        return Text::new(0, 0);
+    }
+    Text::new(start + span.place, span.length)
+}
+
+pub fn text(line: &[u8], at: Columns, faults: Faults) -> GotText
+    ensures { λ r. ⌜ r ≡ specs.gotText (now (line .entry)) at faults ⌝ }
+{
+    let value = shifted(at.start as usize, at.part(line));
+    if ends_before(line, at) {
+        return GotText { value, faults: faults.note(short(at)) };
+    }
+    GotText { value, faults }
+}
+
+// The text of what the line reaches of the columns.
+pub fn text_within(line: &[u8], at: Columns) -> Text
+    ensures { λ r. ⌜ r ≡ specs.textWithin (now (line .entry)) at ⌝ }
+{
+    shifted(at.start as usize, at.reached(line))
+}
+
+// The text from a column to the line's end.
+pub fn text_from(line: &[u8], start: u16) -> Text
+    ensures { λ r. ⌜ r ≡ specs.textFrom (now (line .entry)) start ⌝ }
+{
+    let from = start as usize;
+    shifted(from, from_column(line, from))
+}
+
+// The text from a column to the line's end, trimmed at its end alone.
+pub fn end_text_from(line: &[u8], start: u16) -> Text
+    ensures { λ r. ⌜ r ≡ specs.endTextFrom (now (line .entry)) start ⌝ }
+{
+    let from = start as usize;
+    let n = kept_length(from_column(line, from));
+    if n == 0 {
+        return Text::new(0, 0);
+    }
+    Text::new(from, n)
+}
+
+// The fault of a character's column that the line doesn't reach.
+fn short_character(column: u16) -> Fault
+    ensures { λ r. ⌜ r ≡ specs.unreached column ⌝ }
+{
+    Fault::new(FaultKind::Short, column, 1)
+}
+
+pub fn character(line: &[u8], column: u16, faults: Faults) -> GotCharacter
+    ensures { λ r. ⌜ r ≡ specs.gotCharacter (now (line .entry)) column faults ⌝ }
+{
+    let at = column as usize;
+    if line.len() <= at {
+        return GotCharacter {
+            value: Character::Unreached,
+            faults: faults.note(short_character(column)),
+        };
+    }
+    GotCharacter { value: Character::At(at), faults }
+}
+
+// A character whose blank means that it is absent.
+pub fn optional(line: &[u8], column: u16, faults: Faults) -> GotCharacter
+    ensures { λ r. ⌜ r ≡ specs.gotOptional (now (line .entry)) column faults ⌝ }
+{
+    let at = column as usize;
+    if line.len() <= at {
+        return GotCharacter {
+            value: Character::Absent,
+            faults: faults.note(short_character(column)),
+        };
+    }
+    if line[at] == 32 {
+        return GotCharacter { value: Character::Absent, faults };
+    }
+    GotCharacter { value: Character::At(at), faults }
+}

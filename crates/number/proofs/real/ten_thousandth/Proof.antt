@@ -1,0 +1,21 @@
+-- `number::real::ten_thousandth` meets its contract: the divisor typed in is the double of 10000.
+-- Assumes nothing.
+use mathlib.Core.Path.{refl}
+use native.Mathlib.Omega.{arith}
+use mir.Facts.{toZ-ofZ}
+use Rattle.number.proofs.Laws.Powers.{power-at}
+use Rattle.number.proofs.Laws.Value.{integer-in}
+use Rattle.number.specs.Real.{tenThousandth}
+use lib.Dec.{lit≤}
+use Rattle.number.proofs.real.ten_thousandth.Statement.{statement}
+use Rattle.number.proofs.real.ten_thousandth.Tie as tie
+
+int-to-float-result : tie.Need-int-to-float-result
+int-to-float-result c = rw (toZ-ofZ (c .before .fits .n)) (integer-in (c .before .args .n) (omega arith))
+
+returns : tie.Need-returns
+unfolding tenThousandth
+returns c = rw (toZ-ofZ (c .before .fits .n), power-at 4 refl (lit≤ tt)) refl
+
+pub ten-thousandth-spec : {M : Type 1} → statement M
+ten-thousandth-spec = tie.close (tie.spec int-to-float-result returns)

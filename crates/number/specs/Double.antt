@@ -1,0 +1,14 @@
+-- "The double is one division of M by a power of ten, with the sign put on; bytes `-0` give negative zero."
+use Prim.Native.Nat.{ℕ, _^_}
+use mathlib.Core.Bool.{Bool, true, false}
+use lib.IntN.{pos}
+use lib.Ieee.{Float, binary64, div, neg, ofInt}
+
+-- a double with its sign put on: a minus turns it, zero too
+abbrev pub signPut : Bool → Float → Float
+signPut false x = x
+signPut true x = neg x
+
+-- the double of the written number M over 10 ^ p, behind a minus or not
+unfoldable pub doubleOf : Bool → ℕ → ℕ → Float
+doubleOf minus m p = signPut minus (div binary64 (ofInt binary64 (pos m)) (ofInt binary64 (pos (10 ^ p))))

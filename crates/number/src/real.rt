@@ -1,0 +1,83 @@
+// The doubles of written numbers: one division by a power of ten that is typed in, and the sign put on. Ten
+// powers are exact as doubles, so the quotient is rounded once.
+ghost use mathlib.Core.Path.{_≡_};
+ghost use Prim.Native.Nat.{_≤_, _<_, _^_};
+ghost use lib.IntN.{ℤ, pos, natAbs};
+ghost use lib.Ieee.{binary64, ofInt};
+ghost use Rattle.number.specs.Double.{doubleOf};
+ghost use Rattle.number.specs.Real as specs;
+use crate::decimal::Decimal;
+use crate::decimal::read_decimal;
+use crate::whole::Signed;
+use crate::whole::read_signed;
+
+pub enum Real {
+    R(f64),
+    NotR,
+}
+
+// The powers of ten from 10^0 to 10^9.
+fn power(p: usize) -> f64
+    requires { ⌜ p ≤ 9 ⌝ }
+    ensures { λ r. ⌜ r ≡ ofInt binary64 (pos (10 ^ p)) ⌝ }
+{
+    match p {
+        0 => 1.0,
+        1 => 10.0,
+        2 => 100.0,
+        3 => 1000.0,
+        4 => 10000.0,
+        5 => 100000.0,
+        6 => 1000000.0,
+        7 => 10000000.0,
+        8 => 100000000.0,
+        _ => 1000000000.0,
+    }
+}
+
+// M over 10^p, with its sign.
+fn double(minus: bool, digits: u64, places: usize) -> f64
+    requires { ⌜ digits < 10 ^ 10 ⌝ }
+    requires { ⌜ places ≤ 9 ⌝ }
+    ensures { λ r. ⌜ r ≡ doubleOf minus digits places ⌝ }
+{
+    let quotient = (digits as f64) / power(places);
+    if minus {
+        return -quotient;
+    }
+    quotient
+}
+
+pub fn read_real(text: &[u8]) -> Real
+    ensures { λ r. ⌜ r ≡ specs.realOf (now (text .entry)) ⌝ }
+{
+    match read_decimal(text) {
+        Decimal::NotPlain => Real::NotR,
+        Decimal::Plain {
+            minus,
+            digits,
+            places,
+        } => Real::R(double(minus, digits, places)),
+    }
+}
+
+// An integer made a double and divided by 10000.0.
+fn ten_thousandth(n: i64) -> f64
+    requires { ⌜ natAbs n < 10 ^ 10 ⌝ }
+    ensures { λ r. ⌜ r ≡ specs.tenThousandth n ⌝ }
+{
+    (n as f64) / 10000.0
+}
+
+// An integer of up to seven columns, in ten-thousandths: more columns could say a number that no double holds.
+pub fn read_ten_thousandths(text: &[u8]) -> Real
+    ensures { λ r. ⌜ r ≡ specs.tenThousandthsOf (now (text .entry)) ⌝ }
+{
+    if 7 < text.len() {
+        return Real::NotR;
+    }
+    match read_signed(text) {
+        Signed::NotI => Real::NotR,
+        Signed::I(n) => Real::R(ten_thousandth(n)),
+    }
+}

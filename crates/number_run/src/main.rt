@@ -1,0 +1,170 @@
+// Runs the readers of `number` on texts. Standard input is cut at LF; for each text that an LF ends, one line says
+// what every reader makes of it: U, I, R as the bits of its double, D as sign, M and p, A as the bits of its
+// ten-thousandths, T as place and length, and E as the length that end-trimming leaves. `-` stands for a refusal.
+ghost use Prim.Native.Nat.{_<_};
+use number::decimal::Decimal;
+use number::decimal::read_decimal;
+use number::real::Real;
+use number::real::read_real;
+use number::real::read_ten_thousandths;
+use number::trim::read_text;
+use number::trim::trim_end;
+use number::whole::Signed;
+use number::whole::Unsigned;
+use number::whole::read_signed;
+use number::whole::read_unsigned;
+
+fn put(text: &[u8]) {
+    io::write_all(libc::STDOUT_FILENO, text);
+}
+
+fn put_number(n: u64) {
+    io::print_decimal(libc::STDOUT_FILENO, n);
+}
+
+// How far a number is from zero: for one below, one more than the distance of the next, which fits.
+fn magnitude(n: i64) -> u64 {
+    if n < 0 {
+        return (0 - (n + 1)) as u64 + 1;
+    }
+    n as u64
+}
+
+fn put_signed(n: i64) {
+    if n < 0 {
+        put(b"-");
+    }
+    put_number(magnitude(n));
+}
+
+// A hexadecimal digit in upper case.
+fn glyph(d: u64) -> u8
+    requires { ⌜ d < 16 ⌝ }
+{
+    if d < 10 {
+        return 48 + d as u8;
+    }
+    55 + d as u8
+}
+
+// Sixteen hexadecimal digits.
+fn put_bits(bits: u64) {
+    let mut text = [0u8; 16];
+    let mut i = 16;
+    let mut rest = bits;
+    while 0 < i {
+        i -= 1;
+        text[i] = glyph(rest % 16);
+        rest /= 16;
+    }
+    put(&text);
+}
+
+// A double's bits. No reader gives a NaN, whose bits aren't known: one NaN's pattern stands for it.
+fn bits_of(x: f64) -> u64 {
+    if x == x {
+        return f64::to_bits(x);
+    }
+    0x7FF8_0000_0000_0000
+}
+
+fn put_real(got: Real) {
+    match got {
+        Real::R(x) => put_bits(bits_of(x)),
+        Real::NotR => put(b"-"),
+    }
+}
+
+fn put_u(text: &[u8]) {
+    put(b"U=");
+    match read_unsigned(text) {
+        Unsigned::U(n) => put_number(n),
+        Unsigned::NotU => put(b"-"),
+    }
+}
+
+fn put_i(text: &[u8]) {
+    put(b" I=");
+    match read_signed(text) {
+        Signed::I(n) => put_signed(n),
+        Signed::NotI => put(b"-"),
+    }
+}
+
+fn put_r(text: &[u8]) {
+    put(b" R=");
+    put_real(read_real(text));
+}
+
+fn put_sign(minus: bool) {
+    if minus {
+        put(b"-");
+    } else {
+        put(b"+");
+    }
+}
+
+fn put_d(text: &[u8]) {
+    put(b" D=");
+    match read_decimal(text) {
+        Decimal::NotPlain => put(b"-"),
+        Decimal::Plain {
+            minus,
+            digits,
+            places,
+        } => {
+            put_sign(minus);
+            put_number(digits);
+            put(b"/");
+            put_number(places as u64);
+        }
+    }
+}
+
+fn put_a(text: &[u8]) {
+    put(b" A=");
+    put_real(read_ten_thousandths(text));
+}
+
+fn put_t(text: &[u8]) {
+    put(b" T=");
+    let span = read_text(text);
+    put_number(span.place as u64);
+    put(b",");
+    put_number(span.length as u64);
+}
+
+fn put_e(text: &[u8]) {
+    put(b" E=");
+    put_number(trim_end(text).len() as u64);
+}
+
+fn put_line(text: &[u8]) {
+    put_u(text);
+    put_i(text);
+    put_r(text);
+    put_d(text);
+    put_a(text);
+    put_t(text);
+    put_e(text);
+    put(b"\n");
+}
+
+// A line for each text that an LF ends.
+fn put_lines(input: &[u8]) {
+    let mut at = 0;
+    let mut i = 0;
+    while i < input.len() {
+        if input[i] == 10 {
+            put_line(&input[at..i]);
+            at = i + 1;
+        }
+        i += 1;
+    }
+}
+
+fn main() {
+    let mut input = io::large_buffer();
+    let n = io::read_full(libc::STDIN_FILENO, &mut input);
+    put_lines(&input[..n]);
+}

@@ -1,0 +1,3 @@
+-- The laws of the words in specs/ that loops need.
+pub mod Blanks
+pub mod Triples

@@ -1,0 +1,50 @@
+-- `records::dbref::lex_dbref1` meets its contract: each value is its reader's, and the faults go on in the order of the table.
+-- Assumes nothing.
+use borrow.Author.Needs.{needs}
+use Rattle.records.proofs.dbref.lex_dbref1.Statement.{statement}
+use Rattle.records.proofs.dbref.lex_dbref1.Tie as tie
+
+none-requires : tie.Need-none-requires
+none-requires c κs = search needs
+
+text-requires : tie.Need-text-requires
+text-requires c κs = search needs
+
+text-requires-2 : tie.Need-text-requires-2
+text-requires-2 c κs = search needs
+
+lex-segment-requires : tie.Need-lex-segment-requires
+lex-segment-requires c κs = search needs
+
+text-requires-3 : tie.Need-text-requires-3
+text-requires-3 c κs = search needs
+
+text-requires-4 : tie.Need-text-requires-4
+text-requires-4 c κs = search needs
+
+new-requires : tie.Need-new-requires
+new-requires c κs = search needs
+
+returns : tie.Need-returns
+returns c =
+    simp
+    (c .before .before .before .before .before .before .before .none .ensures,
+    c .before .before .before .before .before .before .text .ensures,
+    c .before .before .before .before .before .text2 .ensures,
+    c .before .before .before .before .lex-segment .ensures,
+    c .before .before .before .text3 .ensures,
+    c .before .before .text4 .ensures,
+    c .before .new .ensures)
+
+pub lex-dbref1-spec : {M : Type 1} → statement M
+lex-dbref1-spec =
+    tie.close
+    (tie.spec
+    none-requires
+    text-requires
+    text-requires-2
+    lex-segment-requires
+    text-requires-3
+    text-requires-4
+    new-requires
+    returns)

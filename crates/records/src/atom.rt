@@ -1,0 +1,108 @@
+// ATOM, HETATM and ANISOU. The coordinates' faults come before those of what the kinds share, as lexer.rs reads them first.
+ghost use mathlib.Core.Path.{_≡_};
+ghost use Rattle.records.specs.Atom as specs;
+ghost use Rattle.records.specs.Lexed.{alone, lineNoted, lexedBy};
+
+use field::charge::charge;
+use field::number_field::{factor, real, signed, unsigned};
+use field::text_field::{character, optional, text};
+use lexitem::atom::{Anisou, Atom, Basics, Factors, Position};
+use lexitem::fault::Faults;
+use lexitem::item::LexItem;
+
+use crate::Lexed;
+
+pub struct GotBasics {
+    pub value: Basics,
+    pub faults: Faults,
+}
+
+pub struct GotPosition {
+    pub value: Position,
+    pub faults: Faults,
+}
+
+pub struct GotFactors {
+    pub value: Factors,
+    pub faults: Faults,
+}
+
+// What ATOM, HETATM and ANISOU share.
+fn lex_atom_basics(line: &[u8], faults: Faults) -> GotBasics
+    ensures { λ r. ⌜ r ≡ record { value = specs.basicsOf (now (line .entry)); faults = lineNoted (now (line .entry)) specs.basicsTable faults } ⌝ }
+{
+    let serial = unsigned(line, Basics::SERIAL, faults);
+    let name = text(line, Basics::NAME, serial.faults);
+    let alternate = optional(line, Basics::ALTERNATE, name.faults);
+    let residue = text(line, Basics::RESIDUE, alternate.faults);
+    let chain = character(line, Basics::CHAIN, residue.faults);
+    let number = signed(line, Basics::NUMBER, chain.faults);
+    let insertion = optional(line, Basics::INSERTION, number.faults);
+    let segment = text(line, Basics::SEGMENT, insertion.faults);
+    let element = text(line, Basics::ELEMENT, segment.faults);
+    let charge = charge(line, Basics::CHARGE, element.faults);
+    let location = alternate.value;
+    let of = chain.value;
+    let inserted = insertion.value;
+    let value = Basics::new(
+        serial.value,
+        name.value,
+        location,
+        residue.value,
+        of,
+        number.value,
+        inserted,
+        segment.value,
+        element.value,
+        charge.value,
+    );
+    let faults = charge.faults;
+    GotBasics { value, faults }
+}
+
+fn lex_position(line: &[u8], faults: Faults) -> GotPosition
+    ensures { λ r. ⌜ r ≡ record { value = specs.positionOf (now (line .entry)); faults = lineNoted (now (line .entry)) specs.positionTable faults } ⌝ }
+{
+    let x = real(line, Position::X, 0.0, faults);
+    let y = real(line, Position::Y, 0.0, x.faults);
+    let z = real(line, Position::Z, 0.0, y.faults);
+    let value = Position::new(x.value, y.value, z.value);
+    let faults = z.faults;
+    GotPosition { value, faults }
+}
+
+pub fn lex_atom(line: &[u8], hetero: bool) -> Lexed
+    ensures { λ r. ⌜ r ≡ lexedBy (alone (now (line .entry))) specs.atomTable (LexItem.Atom (specs.atomOf hetero (now (line .entry)))) ⌝ }
+{
+    let position = lex_position(line, Faults::none());
+    let occupancy = real(line, Atom::OCCUPANCY, Atom::OCCUPANCY_DEFAULT, position.faults);
+    let bfactor = real(line, Atom::BFACTOR, 0.0, occupancy.faults);
+    let basics = lex_atom_basics(line, bfactor.faults);
+    let atom = Atom::new(hetero, basics.value, position.value, occupancy.value, bfactor.value);
+    let faults = basics.faults;
+    Lexed { item: LexItem::Atom(atom), faults }
+}
+
+fn lex_factors(line: &[u8], faults: Faults) -> GotFactors
+    ensures { λ r. ⌜ r ≡ record { value = specs.factorsOf (now (line .entry)); faults = lineNoted (now (line .entry)) specs.factorsTable faults } ⌝ }
+{
+    let u11 = factor(line, Factors::U11, faults);
+    let u22 = factor(line, Factors::U22, u11.faults);
+    let u33 = factor(line, Factors::U33, u22.faults);
+    let u12 = factor(line, Factors::U12, u33.faults);
+    let u13 = factor(line, Factors::U13, u12.faults);
+    let u23 = factor(line, Factors::U23, u13.faults);
+    let value = Factors::new(u11.value, u22.value, u33.value, u12.value, u13.value, u23.value);
+    let faults = u23.faults;
+    GotFactors { value, faults }
+}
+
+pub fn lex_anisou(line: &[u8]) -> Lexed
+    ensures { λ r. ⌜ r ≡ lexedBy (alone (now (line .entry))) specs.anisouTable (LexItem.Anisou (specs.anisouOf (now (line .entry)))) ⌝ }
+{
+    let factors = lex_factors(line, Faults::none());
+    let basics = lex_atom_basics(line, factors.faults);
+    let anisou = Anisou::new(basics.value, factors.value);
+    let faults = basics.faults;
+    Lexed { item: LexItem::Anisou(anisou), faults }
+}
