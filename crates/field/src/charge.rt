@@ -2,11 +2,11 @@
 ghost use mathlib.Core.Path.{_≡_};
 ghost use Prim.Native.Nat.{_<_};
 ghost use Rattle.field.specs.Charge as specs;
-
-use lexitem::columns::Columns;
-use lexitem::fault::{Fault, FaultKind, Faults};
-
 use crate::number_field::GotSigned;
+use lexitem::columns::Columns;
+use lexitem::fault::Fault;
+use lexitem::fault::FaultKind;
+use lexitem::fault::Faults;
 
 fn both_blank(a: u8, b: u8) -> bool
     ensures { λ r. ⌜ r ≡ specs.bothBlank a b ⌝ }
@@ -23,19 +23,34 @@ fn read_charge(digit: u8, sign: u8, start: u16, faults: Faults) -> GotSigned
     ensures { λ r. ⌜ r ≡ specs.gotChargeOf digit sign start faults ⌝ }
 {
     if digit < 48 {
-        return GotSigned { value: 0, faults: faults.note(Fault::new(FaultKind::NoDigit, start, 1)) };
+        return GotSigned {
+            value: 0,
+            faults: faults.note(Fault::new(FaultKind::NoDigit, start, 1)),
+        };
     }
     if 57 < digit {
-        return GotSigned { value: 0, faults: faults.note(Fault::new(FaultKind::NoDigit, start, 1)) };
+        return GotSigned {
+            value: 0,
+            faults: faults.note(Fault::new(FaultKind::NoDigit, start, 1)),
+        };
     }
     let size = (digit - 48) as i64;
     if sign == 43 {
-        return GotSigned { value: size, faults };
+        return GotSigned {
+            value: size,
+            faults,
+        };
     }
     if sign == 45 {
-        return GotSigned { value: 0 - size, faults };
+        return GotSigned {
+            value: 0 - size,
+            faults,
+        };
     }
-    GotSigned { value: 0, faults: faults.note(Fault::new(FaultKind::NoSign, start + 1, 1)) }
+    GotSigned {
+        value: 0,
+        faults: faults.note(Fault::new(FaultKind::NoSign, start + 1, 1)),
+    }
 }
 
 pub fn charge(line: &[u8], at: Columns, faults: Faults) -> GotSigned

@@ -4,11 +4,19 @@ ghost use lib.Dec.{ltb};
 ghost use lib.ListN.{length};
 ghost use Rattle.lexitem.specs.Faults.{allNoted};
 ghost use Rattle.field.specs.Number as specs;
-
-use lexitem::columns::{Columns, from_column};
-use lexitem::fault::{Fault, FaultKind, Faults, Sort};
-use number::real::{Real, read_real, read_ten_thousandths};
-use number::whole::{Signed, Unsigned, read_signed, read_unsigned};
+use lexitem::columns::Columns;
+use lexitem::columns::from_column;
+use lexitem::fault::Fault;
+use lexitem::fault::FaultKind;
+use lexitem::fault::Faults;
+use lexitem::fault::Sort;
+use number::real::Real;
+use number::real::read_real;
+use number::real::read_ten_thousandths;
+use number::whole::Signed;
+use number::whole::Unsigned;
+use number::whole::read_signed;
+use number::whole::read_unsigned;
 
 pub struct GotUnsigned {
     pub value: u64,
@@ -50,11 +58,17 @@ pub fn unsigned(line: &[u8], at: Columns, faults: Faults) -> GotUnsigned
     ensures { λ r. ⌜ r ≡ specs.gotUnsigned (now (line .entry)) at faults ⌝ }
 {
     if ends_before(line, at) {
-        return GotUnsigned { value: 0, faults: faults.note(short(at)) };
+        return GotUnsigned {
+            value: 0,
+            faults: faults.note(short(at)),
+        };
     }
     match read_unsigned(at.part(line)) {
         Unsigned::U(value) => GotUnsigned { value, faults },
-        Unsigned::NotU => GotUnsigned { value: 0, faults: faults.note(wrong(Sort::Unsigned, at)) },
+        Unsigned::NotU => GotUnsigned {
+            value: 0,
+            faults: faults.note(wrong(Sort::Unsigned, at)),
+        },
     }
 }
 
@@ -62,11 +76,17 @@ pub fn signed(line: &[u8], at: Columns, faults: Faults) -> GotSigned
     ensures { λ r. ⌜ r ≡ specs.gotSigned (now (line .entry)) at faults ⌝ }
 {
     if ends_before(line, at) {
-        return GotSigned { value: 0, faults: faults.note(short(at)) };
+        return GotSigned {
+            value: 0,
+            faults: faults.note(short(at)),
+        };
     }
     match read_signed(at.part(line)) {
         Signed::I(value) => GotSigned { value, faults },
-        Signed::NotI => GotSigned { value: 0, faults: faults.note(wrong(Sort::Signed, at)) },
+        Signed::NotI => GotSigned {
+            value: 0,
+            faults: faults.note(wrong(Sort::Signed, at)),
+        },
     }
 }
 
@@ -74,11 +94,17 @@ pub fn real(line: &[u8], at: Columns, default: f64, faults: Faults) -> GotReal
     ensures { λ r. ⌜ r ≡ specs.gotReal (now (line .entry)) at default faults ⌝ }
 {
     if ends_before(line, at) {
-        return GotReal { value: default, faults: faults.note(short(at)) };
+        return GotReal {
+            value: default,
+            faults: faults.note(short(at)),
+        };
     }
     match read_real(at.part(line)) {
         Real::R(value) => GotReal { value, faults },
-        Real::NotR => GotReal { value: default, faults: faults.note(wrong(Sort::Real, at)) },
+        Real::NotR => GotReal {
+            value: default,
+            faults: faults.note(wrong(Sort::Real, at)),
+        },
     }
 }
 
@@ -87,11 +113,17 @@ pub fn factor(line: &[u8], at: Columns, faults: Faults) -> GotReal
     ensures { λ r. ⌜ r ≡ specs.gotFactor (now (line .entry)) at faults ⌝ }
 {
     if ends_before(line, at) {
-        return GotReal { value: 0.0, faults: faults.note(short(at)) };
+        return GotReal {
+            value: 0.0,
+            faults: faults.note(short(at)),
+        };
     }
     match read_ten_thousandths(at.part(line)) {
         Real::R(value) => GotReal { value, faults },
-        Real::NotR => GotReal { value: 0.0, faults: faults.note(wrong(Sort::Signed, at)) },
+        Real::NotR => GotReal {
+            value: 0.0,
+            faults: faults.note(wrong(Sort::Signed, at)),
+        },
     }
 }
 

@@ -3,13 +3,18 @@ ghost use mathlib.Core.Path.{_≡_};
 ghost use Prim.Native.Nat.{_≤_};
 ghost use Rattle.number.specs.Trim.{spanOf};
 ghost use Rattle.field.specs.Text as specs;
-
-use lexitem::columns::{Columns, from_column};
-use lexitem::fault::{Fault, FaultKind, Faults};
-use lexitem::text::{Character, Text};
-use number::trim::{Span, kept_length, read_text};
-
-use crate::number_field::{ends_before, short};
+use crate::number_field::ends_before;
+use crate::number_field::short;
+use lexitem::columns::Columns;
+use lexitem::columns::from_column;
+use lexitem::fault::Fault;
+use lexitem::fault::FaultKind;
+use lexitem::fault::Faults;
+use lexitem::text::Character;
+use lexitem::text::Text;
+use number::trim::Span;
+use number::trim::kept_length;
+use number::trim::read_text;
 
 pub struct GotText {
     pub value: Text,
@@ -38,7 +43,10 @@ pub fn text(line: &[u8], at: Columns, faults: Faults) -> GotText
 {
     let value = shifted(at.start as usize, at.part(line));
     if ends_before(line, at) {
-        return GotText { value, faults: faults.note(short(at)) };
+        return GotText {
+            value,
+            faults: faults.note(short(at)),
+        };
     }
     GotText { value, faults }
 }
@@ -87,7 +95,10 @@ pub fn character(line: &[u8], column: u16, faults: Faults) -> GotCharacter
             faults: faults.note(short_character(column)),
         };
     }
-    GotCharacter { value: Character::At(at), faults }
+    GotCharacter {
+        value: Character::At(at),
+        faults,
+    }
 }
 
 // A character whose blank means that it is absent.
@@ -102,7 +113,13 @@ pub fn optional(line: &[u8], column: u16, faults: Faults) -> GotCharacter
         };
     }
     if line[at] == 32 {
-        return GotCharacter { value: Character::Absent, faults };
+        return GotCharacter {
+            value: Character::Absent,
+            faults,
+        };
     }
-    GotCharacter { value: Character::At(at), faults }
+    GotCharacter {
+        value: Character::At(at),
+        faults,
+    }
 }

@@ -15,8 +15,8 @@ use Rattle.records.specs.Seqres.{seqresTable, seqresOf}
 use Rattle.records.specs.Dbref.{dbrefTable, dbrefOf, dbref1Table, dbref1Of, dbref2Table, dbref2Of}
 use Rattle.records.specs.Seqadv.{hasTarget, seqadvTable, seqadvOf, modresTable, modresOf}
 use Rattle.records.specs.Ssbond.{hasTail, ssbondTable, ssbondOf}
-use Rattle.lexer.specs.declared.kind.Kind.{Kind}
-use Rattle.lexer.specs.declared.kind.Kind.the-variants.{Empty, Header, Remark, Atom, Hetatm, Anisou, Cryst1, Scale, Origx, Mtrix, Model, Master, Dbref, Dbref1, Dbref2, Seqres, Seqadv, Modres, Ssbond, Endmdl, Ter, End}
+use Rattle.kind.specs.declared.Kind.{Kind}
+use Rattle.kind.specs.declared.Kind.the-variants.{Empty, Header, Remark, Atom, Hetatm, Anisou, Cryst1, Scale, Origx, Mtrix, Model, Master, Dbref, Dbref1, Dbref2, Seqres, Seqadv, Modres, Ssbond, Endmdl, Ter, End}
 
 -- the fields of a kind, with its conditional part or without
 abbrev pub tableOf : Kind → Bool → List Entry

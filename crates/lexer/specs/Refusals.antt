@@ -11,10 +11,12 @@ use Rattle.lexitem.specs.Faults.{blankFault}
 use Rattle.lexitem.specs.declared.answer.Options.{Options}
 use Rattle.lexitem.specs.declared.answer.Refusal.{Refusal}
 use Rattle.lexitem.specs.declared.fault.Fault.{Fault}
-use Rattle.lexer.specs.Kind.{kindOf}
+use Rattle.kind.specs.Kind.{kindOf}
 use Rattle.lexer.specs.Item.{faultsOf}
-use Rattle.lexer.specs.declared.kind.Kind.{Kind}
-use Rattle.lexer.specs.declared.kind.Kind.the-variants.{Empty, Header, Remark, Atom, Hetatm, Anisou, Cryst1, Scale, Origx, Mtrix, Model, Master, Dbref, Dbref1, Dbref2, Seqres, Seqadv, Modres, Ssbond, Endmdl, Ter, End}
+use Rattle.lexer.specs.declared.bound.Bound.{Bound}
+use Rattle.lexer.specs.declared.bound.Bound.the-variants as bound
+use Rattle.kind.specs.declared.Kind.{Kind}
+use Rattle.kind.specs.declared.Kind.the-variants.{Empty, Header, Remark, Atom, Hetatm, Anisou, Cryst1, Scale, Origx, Mtrix, Model, Master, Dbref, Dbref1, Dbref2, Seqres, Seqadv, Modres, Ssbond, Endmdl, Ter, End}
 
 -- a line with its number, the options and the lent remark table
 pub record Input : Type 0 where
@@ -38,61 +40,57 @@ plain [] = 0
 plain (b ∷ t) = cond (ltb b 128) (suc (plain t)) 0
 
 -- what a kind asks of its line: HEADER all of its columns, REMARK not too many, some kinds a least length, the rest nothing
-pub data Bound : Type 0 where
-  header remark free : Bound
-  least : ℕ → Bound
-
 abbrev pub boundOf : Kind → Bound
-boundOf Empty = free
-boundOf Header = header
-boundOf Remark = remark
-boundOf Atom = free
-boundOf Hetatm = free
-boundOf Anisou = free
-boundOf Cryst1 = least 55
-boundOf (Scale row) = free
-boundOf (Origx row) = free
-boundOf (Mtrix row) = free
-boundOf Model = free
-boundOf Master = free
-boundOf Dbref = free
-boundOf Dbref1 = free
-boundOf Dbref2 = free
-boundOf Seqres = free
-boundOf Seqadv = least 49
-boundOf Modres = least 29
-boundOf Ssbond = least 36
-boundOf Endmdl = free
-boundOf Ter = free
-boundOf End = free
+boundOf Empty = bound.Free
+boundOf Header = bound.Header
+boundOf Remark = bound.Remark
+boundOf Atom = bound.Free
+boundOf Hetatm = bound.Free
+boundOf Anisou = bound.Free
+boundOf Cryst1 = bound.Least 55
+boundOf (Scale row) = bound.Free
+boundOf (Origx row) = bound.Free
+boundOf (Mtrix row) = bound.Free
+boundOf Model = bound.Free
+boundOf Master = bound.Free
+boundOf Dbref = bound.Free
+boundOf Dbref1 = bound.Free
+boundOf Dbref2 = bound.Free
+boundOf Seqres = bound.Free
+boundOf Seqadv = bound.Least 49
+boundOf Modres = bound.Least 29
+boundOf Ssbond = bound.Least 36
+boundOf Endmdl = bound.Free
+boundOf Ter = bound.Free
+boundOf End = bound.Free
 
 -- HEADER under 66
 abbrev pub headerCut : Bound → List ℕ → Bool
-headerCut header l = ltb (length l) 66
-headerCut remark l = false
-headerCut free l = false
-headerCut (least n) l = false
+headerCut bound.Header l = ltb (length l) 66
+headerCut bound.Remark l = false
+headerCut bound.Free l = false
+headerCut (bound.Least n) l = false
 
 -- REMARK over 11 long whose end-trimmed length is 80 or more, not loose
 abbrev pub remarkLong : Bound → List ℕ → Bool → Bool
-remarkLong header l loose = false
-remarkLong remark l loose = ltb 11 (length l) && leb 80 (kept l) && not loose
-remarkLong free l loose = false
-remarkLong (least n) l loose = false
+remarkLong bound.Header l loose = false
+remarkLong bound.Remark l loose = ltb 11 (length l) && leb 80 (kept l) && not loose
+remarkLong bound.Free l loose = false
+remarkLong (bound.Least n) l loose = false
 
 -- how many bytes are missing: CRYST1 under 55, MODRES under 29, SEQADV under 49, SSBOND under 36
 abbrev pub missing : Bound → List ℕ → ℕ
-missing header l = 0
-missing remark l = 0
-missing free l = 0
-missing (least n) l = n - length l
+missing bound.Header l = 0
+missing bound.Remark l = 0
+missing bound.Free l = 0
+missing (bound.Least n) l = n - length l
 
 -- a row of the table: when it holds, and what it gives
 pub record Row : Type 0 where
   pub holds : Bool
   pub gives : Refusal
 
-abbrev row : Bool → ℕ → ℕ → ℕ → Row
+abbrev pub row : Bool → ℕ → ℕ → ℕ → Row
 row holds number place length = record { holds = holds; gives = record { number = number; place = place; length = length } }
 
 -- the 17th fault

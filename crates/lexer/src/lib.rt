@@ -1,2 +1,101 @@
-// `lex_line`: which kind a line is, its refusals in document 01's order, and its record.
-pub mod kind;
+// `lex_line`: a line's refusals in document 01's order of testing, or its record and its faults.
+ghost use mathlib.Core.Path.{_≡_};
+ghost use Rattle.lexer.specs.Refusals as specs;
+ghost use Rattle.lexer.specs.Lexed.{lexed};
+ghost use Rattle.lexer.specs.Steps as steps;
+
+pub mod bound;
+pub mod read;
+
+use crate::bound::bound_of;
+use crate::bound::own_refusal;
+use crate::read::lex_as;
+use kind::Kind;
+use kind::kind_of;
+use lexitem::answer::Answer;
+use lexitem::answer::Options;
+use lexitem::answer::Outcome;
+use lexitem::answer::Refusal;
+use lexitem::fault::Faults;
+use records::Lexed;
+
+// How many bytes stand before the first of 128 or more.
+fn plain_length(line: &[u8]) -> usize
+    ensures { λ r. ⌜ r ≡ specs.plain (now (line .entry)) ⌝ }
+{
+    let mut i = 0;
+    while i < line.len() {
+        if line[i] < 128 {
+            i += 1;
+        } else {
+            return i;
+        }
+    }
+    i
+}
+
+// A refusal: no record and an empty list of faults.
+fn refuse(line: usize, refusal: Refusal) -> Answer
+    ensures { λ r. ⌜ r ≡ steps.refusedWith line refusal ⌝ }
+{
+    Answer {
+        line,
+        outcome: Outcome::Refused(refusal),
+        faults: Faults::none(),
+    }
+}
+
+// A record with its faults, unless there are more than the list holds.
+fn accept(line: usize, lexed: Lexed) -> Answer
+    ensures { λ r. ⌜ r ≡ steps.answerOf line lexed ⌝ }
+{
+    let faults = lexed.faults;
+    if 16 < faults.count {
+        let over = faults.over;
+        return refuse(
+            line,
+            Refusal::new(7, over.place as usize, over.length as usize),
+        );
+    }
+    let item = lexed.item;
+    Answer {
+        line,
+        outcome: Outcome::Accepted(item),
+        faults,
+    }
+}
+
+// Reads a line of a kind, after the refusals that the kind has of its own.
+fn read_as(line: &[u8], number: usize, kind: Kind, loose: bool, remarks: &[u8]) -> Answer
+    ensures { λ r. ⌜ r ≡ steps.readAs (now (line .entry)) number kind loose (now (remarks .entry)) ⌝ }
+{
+    let refusal = own_refusal(bound_of(kind), line, loose);
+    if refusal.number != 0 {
+        return refuse(number, refusal);
+    }
+    accept(number, lex_as(kind, line, remarks))
+}
+
+// Lexes a line of any bytes. The number is handed through. The remark table has 1,000 bytes, byte n nonzero when
+// remark number n is valid.
+pub fn lex_line(line: &[u8], number: usize, options: Options, remarks: &[u8]) -> Answer
+    ensures { λ r. ⌜ r ≡ lexed (record { line = now (line .entry); number = number; options = options; remarks = now (remarks .entry) }) ⌝ }
+{
+    if remarks.len() != 1000 {
+        return refuse(number, Refusal::new(1, 0, 0));
+    }
+    if 1024 < line.len() {
+        return refuse(number, Refusal::new(2, 1024, line.len() - 1024));
+    }
+    let plain = plain_length(line);
+    if plain < line.len() {
+        return refuse(number, Refusal::new(3, plain, 1));
+    }
+    read_as(
+        line,
+        number,
+        kind_of(options.atoms, line),
+        options.loose,
+        remarks,
+    )
+}

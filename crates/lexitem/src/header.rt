@@ -1,6 +1,5 @@
 // HEADER and REMARK.
 ghost use mathlib.Core.Path.{_≡_};
-
 use crate::columns::Columns;
 use crate::text::Text;
 
@@ -13,13 +12,19 @@ pub struct Header {
 
 impl Header {
     pub const CLASSIFICATION: Columns = Columns { start: 10, end: 50 };
+
     pub const DATE: Columns = Columns { start: 50, end: 59 };
+
     pub const CODE: Columns = Columns { start: 62, end: 66 };
 
     pub fn new(classification: Text, date: Text, code: Text) -> Self
         ensures { λ r. ⌜ r ≡ record { classification = classification; date = date; code = code } ⌝ }
     {
-        Header { classification, date, code }
+        Header {
+            classification,
+            date,
+            code,
+        }
     }
 }
 
@@ -31,7 +36,9 @@ pub struct Remark {
 
 impl Remark {
     pub const NUMBER: Columns = Columns { start: 7, end: 10 };
+
     pub const TEXT: u16 = 11;
+
     pub const LIMIT: usize = 80;
 
     pub fn new(number: u64, text: Text) -> Self

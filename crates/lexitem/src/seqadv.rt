@@ -1,8 +1,8 @@
 // SEQADV and MODRES.
 ghost use mathlib.Core.Path.{_≡_};
-
 use crate::columns::Columns;
-use crate::text::{Character, Text};
+use crate::text::Character;
+use crate::text::Text;
 
 // The residue of the database, if the line has one.
 pub enum Target {
@@ -25,21 +25,51 @@ pub struct Seqadv {
 
 impl Seqadv {
     pub const CODE: Columns = Columns { start: 7, end: 11 };
+
     pub const RESIDUE: Columns = Columns { start: 12, end: 15 };
+
     pub const CHAIN: Columns = Columns { start: 16, end: 17 };
+
     pub const NUMBER: Columns = Columns { start: 18, end: 22 };
+
     pub const INSERTION: u16 = 22;
+
     pub const DATABASE: Columns = Columns { start: 24, end: 28 };
+
     pub const ACCESSION: Columns = Columns { start: 29, end: 38 };
+
     pub const TARGET: Columns = Columns { start: 39, end: 48 };
+
     pub const TARGET_NAME: Columns = Columns { start: 39, end: 42 };
+
     pub const TARGET_NUMBER: Columns = Columns { start: 43, end: 48 };
+
     pub const COMMENT: u16 = 49;
 
-    pub fn new(code: Text, residue: Text, chain: Text, number: i64, insertion: Character, database: Text, accession: Text, target: Target, comment: Text) -> Self
+    pub fn new(
+        code: Text,
+        residue: Text,
+        chain: Text,
+        number: i64,
+        insertion: Character,
+        database: Text,
+        accession: Text,
+        target: Target,
+        comment: Text,
+    ) -> Self
         ensures { λ r. ⌜ r ≡ record { code = code; residue = residue; chain = chain; number = number; insertion = insertion; database = database; accession = accession; target = target; comment = comment } ⌝ }
     {
-        Seqadv { code, residue, chain, number, insertion, database, accession, target, comment }
+        Seqadv {
+            code,
+            residue,
+            chain,
+            number,
+            insertion,
+            database,
+            accession,
+            target,
+            comment,
+        }
     }
 }
 
@@ -56,16 +86,38 @@ pub struct Modres {
 
 impl Modres {
     pub const CODE: Columns = Columns { start: 7, end: 11 };
+
     pub const RESIDUE: Columns = Columns { start: 12, end: 15 };
+
     pub const CHAIN: u16 = 16;
+
     pub const NUMBER: Columns = Columns { start: 18, end: 22 };
+
     pub const INSERTION: u16 = 22;
+
     pub const STANDARD: Columns = Columns { start: 24, end: 27 };
+
     pub const COMMENT: u16 = 29;
 
-    pub fn new(code: Text, residue: Text, chain: Character, number: i64, insertion: Character, standard: Text, comment: Text) -> Self
+    pub fn new(
+        code: Text,
+        residue: Text,
+        chain: Character,
+        number: i64,
+        insertion: Character,
+        standard: Text,
+        comment: Text,
+    ) -> Self
         ensures { λ r. ⌜ r ≡ record { code = code; residue = residue; chain = chain; number = number; insertion = insertion; standard = standard; comment = comment } ⌝ }
     {
-        Modres { code, residue, chain, number, insertion, standard, comment }
+        Modres {
+            code,
+            residue,
+            chain,
+            number,
+            insertion,
+            standard,
+            comment,
+        }
     }
 }

@@ -1,9 +1,9 @@
 // SEQRES.
 ghost use mathlib.Core.Path.{_≡_};
 ghost use Rattle.lexitem.specs.Triples.{tripleOf};
-
 use crate::columns::Columns;
-use crate::text::{Character, Text};
+use crate::text::Character;
+use crate::text::Text;
 
 // A SEQRES: `triples` residue names, of three columns each and not trimmed.
 pub struct Seqres {
@@ -15,18 +15,30 @@ pub struct Seqres {
 
 impl Seqres {
     pub const SERIAL: Columns = Columns { start: 7, end: 10 };
+
     pub const CHAIN: u16 = 11;
+
     pub const RESIDUES: Columns = Columns { start: 13, end: 17 };
+
     pub const FIRST: usize = 19;
+
     pub const STEP: usize = 4;
+
     pub const WIDTH: usize = 3;
+
     pub const LIMIT: usize = 71;
+
     pub const MOST: usize = 13;
 
     pub fn new(serial: u64, chain: Character, residues: u64, triples: usize) -> Self
         ensures { λ r. ⌜ r ≡ record { serial = serial; chain = chain; residues = residues; triples = triples } ⌝ }
     {
-        Seqres { serial, chain, residues, triples }
+        Seqres {
+            serial,
+            chain,
+            residues,
+            triples,
+        }
     }
 
     // Where a residue name lies, the first having index 0; empty where there is none.

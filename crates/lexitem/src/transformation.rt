@@ -1,6 +1,5 @@
 // SCALEn, ORIGXn and MTRIXn, n less one being the row.
 ghost use mathlib.Core.Path.{_≡_};
-
 use crate::columns::Columns;
 
 // A row of a transformation.
@@ -13,8 +12,11 @@ pub struct Row {
 
 impl Row {
     pub const A: Columns = Columns { start: 10, end: 20 };
+
     pub const B: Columns = Columns { start: 20, end: 30 };
+
     pub const C: Columns = Columns { start: 30, end: 40 };
+
     pub const D: Columns = Columns { start: 45, end: 55 };
 
     pub fn new(a: f64, b: f64, c: f64, d: f64) -> Self
@@ -62,11 +64,17 @@ pub struct MtriX {
 
 impl MtriX {
     pub const SERIAL: Columns = Columns { start: 7, end: 10 };
+
     pub const GIVEN: usize = 59;
 
     pub fn new(row: usize, serial: u64, values: Row, given: bool) -> Self
         ensures { λ r. ⌜ r ≡ record { row = row; serial = serial; values = values; given = given } ⌝ }
     {
-        MtriX { row, serial, values, given }
+        MtriX {
+            row,
+            serial,
+            values,
+            given,
+        }
     }
 }

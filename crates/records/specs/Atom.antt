@@ -42,7 +42,7 @@ basicsOf l = record {
   insertion = optionalAt l 26;
   segment = textAt l (72 ⋯ 76);
   element = textAt l (76 ⋯ 78);
-  charge = chargeAt l (78 ⋯ 80)
+  charge = chargeAt l (78 ⋯ 80);
 }
 
 -- a position is three doubles
@@ -62,7 +62,7 @@ atomOf hetero l = record {
   basics = basicsOf l;
   position = positionOf l;
   occupancy = realAt l (54 ⋯ 60) oneReal;
-  bfactor = realAt l (60 ⋯ 66) zeroReal
+  bfactor = realAt l (60 ⋯ 66) zeroReal;
 }
 
 -- ANISOU's six
@@ -76,7 +76,7 @@ factorsOf l = record {
   u33 = factorAt l (42 ⋯ 49);
   u12 = factorAt l (49 ⋯ 56);
   u13 = factorAt l (56 ⋯ 63);
-  u23 = factorAt l (63 ⋯ 70)
+  u23 = factorAt l (63 ⋯ 70);
 }
 
 abbrev pub anisouTable : List Entry

@@ -32,7 +32,7 @@ cellOf l = record {
   c = realAt l (24 ⋯ 33) zeroReal;
   alpha = realAt l (33 ⋯ 40) zeroReal;
   beta = realAt l (40 ⋯ 47) zeroReal;
-  gamma = realAt l (47 ⋯ 54) zeroReal
+  gamma = realAt l (47 ⋯ 54) zeroReal;
 }
 
 -- whether the line is long enough for Z to be written

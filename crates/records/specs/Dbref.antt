@@ -25,7 +25,7 @@ segmentOf l begin opening end closing = record {
   begin = signedAt l begin;
   opening = characterAt l opening;
   end = signedAt l end;
-  closing = characterAt l closing
+  closing = characterAt l closing;
 }
 
 abbrev pub gotSegment : List ℕ → Columns → ℕ → Columns → ℕ → Faults → GotSegment
@@ -57,7 +57,7 @@ dbrefOf l = record {
   database = textAt l (26 ⋯ 32);
   accession = textAt l (33 ⋯ 41);
   name = textAt l (42 ⋯ 54);
-  target = segmentOf l (55 ⋯ 60) 60 (62 ⋯ 67) 67
+  target = segmentOf l (55 ⋯ 60) 60 (62 ⋯ 67) 67;
 }
 
 abbrev pub dbref1Table : List Entry
@@ -78,7 +78,7 @@ dbref1Of l = record {
   chain = textAt l (12 ⋯ 13);
   segment = segmentOf l (14 ⋯ 18) 18 (21 ⋯ 24) 24;
   database = textAt l (26 ⋯ 32);
-  name = textAt l (47 ⋯ 67)
+  name = textAt l (47 ⋯ 67);
 }
 
 abbrev pub dbref2Table : List Entry
@@ -90,5 +90,5 @@ dbref2Of l = record {
   chain = textAt l (12 ⋯ 13);
   accession = textAt l (18 ⋯ 40);
   begin = signedAt l (45 ⋯ 55);
-  end = signedAt l (57 ⋯ 67)
+  end = signedAt l (57 ⋯ 67);
 }

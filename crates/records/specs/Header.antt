@@ -24,7 +24,7 @@ abbrev pub headerOf : Header
 headerOf = record {
   classification = record { place = 10; length = 40 };
   date = record { place = 50; length = 9 };
-  code = record { place = 62; length = 4 }
+  code = record { place = 62; length = 4 };
 }
 
 abbrev pub remarkTable : List Entry

@@ -43,5 +43,5 @@ masterOf l = record {
   coord = unsignedAt l (50 ⋯ 55);
   ter = unsignedAt l (55 ⋯ 60);
   connect = unsignedAt l (60 ⋯ 65);
-  seq = unsignedAt l (65 ⋯ 70)
+  seq = unsignedAt l (65 ⋯ 70);
 }

@@ -62,7 +62,7 @@ seqadvOf l = record {
   database = textAt l (24 ⋯ 28);
   accession = textAt l (29 ⋯ 38);
   target = targetOf (hasTarget l) l;
-  comment = textFrom l 49
+  comment = textFrom l 49;
 }
 
 abbrev pub modresTable : List Entry
@@ -84,5 +84,5 @@ modresOf l = record {
   number = signedAt l (18 ⋯ 22);
   insertion = optionalAt l 22;
   standard = textAt l (24 ⋯ 27);
-  comment = textFrom l 29
+  comment = textFrom l 29;
 }

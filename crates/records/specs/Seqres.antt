@@ -33,5 +33,5 @@ seqresOf l = record {
   serial = unsignedAt l (7 ⋯ 10);
   chain = characterAt l 11;
   residues = unsignedAt l (13 ⋯ 17);
-  triples = triplesOf l
+  triples = triplesOf l;
 }

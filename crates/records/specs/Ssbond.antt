@@ -42,7 +42,7 @@ residueOf l name chain number insertion = record {
   name = textAt l name;
   chain = characterAt l chain;
   number = signedAt l number;
-  insertion = optionalAt l insertion
+  insertion = optionalAt l insertion;
 }
 
 abbrev pub gotResidue : List ℕ → Columns → ℕ → Columns → ℕ → Faults → GotResidue
@@ -56,5 +56,5 @@ abbrev pub ssbondOf : List ℕ → SSBond
 ssbondOf l = record {
   first = residueOf l (11 ⋯ 14) 15 (17 ⋯ 21) 21;
   second = residueOf l (25 ⋯ 28) 29 (31 ⋯ 35) 35;
-  tail = tailOf (hasTail l) l
+  tail = tailOf (hasTail l) l;
 }

@@ -22,7 +22,7 @@ rowOf l = record {
   a = realAt l (10 ⋯ 20) zeroReal;
   b = realAt l (20 ⋯ 30) zeroReal;
   c = realAt l (30 ⋯ 40) zeroReal;
-  d = realAt l (45 ⋯ 55) zeroReal
+  d = realAt l (45 ⋯ 55) zeroReal;
 }
 
 abbrev pub scaleOf : ℕ → List ℕ → Scale

@@ -2,15 +2,22 @@
 ghost use mathlib.Core.Path.{_≡_};
 ghost use Rattle.records.specs.Atom as specs;
 ghost use Rattle.records.specs.Lexed.{alone, lineNoted, lexedBy};
-
+use crate::Lexed;
 use field::charge::charge;
-use field::number_field::{factor, real, signed, unsigned};
-use field::text_field::{character, optional, text};
-use lexitem::atom::{Anisou, Atom, Basics, Factors, Position};
+use field::number_field::factor;
+use field::number_field::real;
+use field::number_field::signed;
+use field::number_field::unsigned;
+use field::text_field::character;
+use field::text_field::optional;
+use field::text_field::text;
+use lexitem::atom::Anisou;
+use lexitem::atom::Atom;
+use lexitem::atom::Basics;
+use lexitem::atom::Factors;
+use lexitem::atom::Position;
 use lexitem::fault::Faults;
 use lexitem::item::LexItem;
-
-use crate::Lexed;
 
 pub struct GotBasics {
     pub value: Basics,
@@ -75,12 +82,26 @@ pub fn lex_atom(line: &[u8], hetero: bool) -> Lexed
     ensures { λ r. ⌜ r ≡ lexedBy (alone (now (line .entry))) specs.atomTable (LexItem.Atom (specs.atomOf hetero (now (line .entry)))) ⌝ }
 {
     let position = lex_position(line, Faults::none());
-    let occupancy = real(line, Atom::OCCUPANCY, Atom::OCCUPANCY_DEFAULT, position.faults);
+    let occupancy = real(
+        line,
+        Atom::OCCUPANCY,
+        Atom::OCCUPANCY_DEFAULT,
+        position.faults,
+    );
     let bfactor = real(line, Atom::BFACTOR, 0.0, occupancy.faults);
     let basics = lex_atom_basics(line, bfactor.faults);
-    let atom = Atom::new(hetero, basics.value, position.value, occupancy.value, bfactor.value);
+    let atom = Atom::new(
+        hetero,
+        basics.value,
+        position.value,
+        occupancy.value,
+        bfactor.value,
+    );
     let faults = basics.faults;
-    Lexed { item: LexItem::Atom(atom), faults }
+    Lexed {
+        item: LexItem::Atom(atom),
+        faults,
+    }
 }
 
 fn lex_factors(line: &[u8], faults: Faults) -> GotFactors
@@ -92,7 +113,14 @@ fn lex_factors(line: &[u8], faults: Faults) -> GotFactors
     let u12 = factor(line, Factors::U12, u33.faults);
     let u13 = factor(line, Factors::U13, u12.faults);
     let u23 = factor(line, Factors::U23, u13.faults);
-    let value = Factors::new(u11.value, u22.value, u33.value, u12.value, u13.value, u23.value);
+    let value = Factors::new(
+        u11.value,
+        u22.value,
+        u33.value,
+        u12.value,
+        u13.value,
+        u23.value,
+    );
     let faults = u23.faults;
     GotFactors { value, faults }
 }
@@ -104,5 +132,8 @@ pub fn lex_anisou(line: &[u8]) -> Lexed
     let basics = lex_atom_basics(line, factors.faults);
     let anisou = Anisou::new(basics.value, factors.value);
     let faults = basics.faults;
-    Lexed { item: LexItem::Anisou(anisou), faults }
+    Lexed {
+        item: LexItem::Anisou(anisou),
+        faults,
+    }
 }

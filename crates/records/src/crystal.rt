@@ -2,14 +2,15 @@
 ghost use mathlib.Core.Path.{_≡_};
 ghost use Rattle.records.specs.Crystal as specs;
 ghost use Rattle.records.specs.Lexed.{alone, lineNoted, lexedBy};
-
-use field::number_field::{GotUnsigned, real, unsigned_from};
+use crate::Lexed;
+use field::number_field::GotUnsigned;
+use field::number_field::real;
+use field::number_field::unsigned_from;
 use field::text_field::text_within;
-use lexitem::crystal::{Cell, Crystal};
+use lexitem::crystal::Cell;
+use lexitem::crystal::Crystal;
 use lexitem::fault::Faults;
 use lexitem::item::LexItem;
-
-use crate::Lexed;
 
 pub struct GotCell {
     pub value: Cell,
@@ -25,7 +26,14 @@ fn lex_cell(line: &[u8], faults: Faults) -> GotCell
     let alpha = real(line, Cell::ALPHA, 0.0, c.faults);
     let beta = real(line, Cell::BETA, 0.0, alpha.faults);
     let gamma = real(line, Cell::GAMMA, 0.0, beta.faults);
-    let value = Cell::new(a.value, b.value, c.value, alpha.value, beta.value, gamma.value);
+    let value = Cell::new(
+        a.value,
+        b.value,
+        c.value,
+        alpha.value,
+        beta.value,
+        gamma.value,
+    );
     let faults = gamma.faults;
     GotCell { value, faults }
 }
@@ -34,7 +42,10 @@ fn lex_z(line: &[u8], faults: Faults) -> GotUnsigned
     ensures { λ r. ⌜ r ≡ specs.gotZ (now (line .entry)) faults ⌝ }
 {
     if line.len() <= Crystal::SPACEGROUP.end as usize {
-        return GotUnsigned { value: Crystal::Z_DEFAULT, faults };
+        return GotUnsigned {
+            value: Crystal::Z_DEFAULT,
+            faults,
+        };
     }
     unsigned_from(line, Crystal::SPACEGROUP.end, faults)
 }
@@ -47,5 +58,8 @@ pub fn lex_cryst(line: &[u8]) -> Lexed
     let z = lex_z(line, cell.faults);
     let crystal = Crystal::new(cell.value, spacegroup, z.value);
     let faults = z.faults;
-    Lexed { item: LexItem::Crystal(crystal), faults }
+    Lexed {
+        item: LexItem::Crystal(crystal),
+        faults,
+    }
 }

@@ -3,17 +3,16 @@ ghost use mathlib.Core.Path.{_≡_};
 ghost use Rattle.records.specs.Header as specs;
 ghost use mathlib.Core.List.{[]};
 ghost use Rattle.records.specs.Lexed.{alone, lexedBy};
-
+use crate::Lexed;
 use field::charge::known;
 use field::number_field::unsigned;
 use field::text_field::end_text_from;
 use lexitem::columns::Columns;
 use lexitem::fault::Faults;
-use lexitem::header::{Header, Remark};
+use lexitem::header::Header;
+use lexitem::header::Remark;
 use lexitem::item::LexItem;
 use lexitem::text::Text;
-
-use crate::Lexed;
 
 // The columns as they stand.
 fn as_they_stand(at: Columns) -> Text
@@ -31,7 +30,10 @@ pub fn lex_header() -> Lexed
         as_they_stand(Header::DATE),
         as_they_stand(Header::CODE),
     );
-    Lexed { item: LexItem::Header(header), faults: Faults::none() }
+    Lexed {
+        item: LexItem::Header(header),
+        faults: Faults::none(),
+    }
 }
 
 pub fn lex_remark(line: &[u8], remarks: &[u8]) -> Lexed
@@ -40,5 +42,8 @@ pub fn lex_remark(line: &[u8], remarks: &[u8]) -> Lexed
     let number = unsigned(line, Remark::NUMBER, Faults::none());
     let faults = known(remarks, number.value, Remark::NUMBER, number.faults);
     let text = end_text_from(line, Remark::TEXT);
-    Lexed { item: LexItem::Remark(Remark::new(number.value, text)), faults }
+    Lexed {
+        item: LexItem::Remark(Remark::new(number.value, text)),
+        faults,
+    }
 }

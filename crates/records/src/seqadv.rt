@@ -2,14 +2,17 @@
 ghost use mathlib.Core.Path.{_≡_};
 ghost use Rattle.records.specs.Seqadv as specs;
 ghost use Rattle.records.specs.Lexed.{alone, lineNoted, lexedBy};
-
+use crate::Lexed;
 use field::number_field::signed;
-use field::text_field::{character, optional, text, text_from};
+use field::text_field::character;
+use field::text_field::optional;
+use field::text_field::text;
+use field::text_field::text_from;
 use lexitem::fault::Faults;
 use lexitem::item::LexItem;
-use lexitem::seqadv::{Modres, Seqadv, Target};
-
-use crate::Lexed;
+use lexitem::seqadv::Modres;
+use lexitem::seqadv::Seqadv;
+use lexitem::seqadv::Target;
 
 pub struct GotTarget {
     pub value: Target,
@@ -35,12 +38,18 @@ fn lex_target(line: &[u8], faults: Faults) -> GotTarget
     ensures { λ r. ⌜ r ≡ specs.gotTarget (now (line .entry)) faults ⌝ }
 {
     if is_blank(Seqadv::TARGET.part(line)) {
-        return GotTarget { value: Target::NoResidue, faults };
+        return GotTarget {
+            value: Target::NoResidue,
+            faults,
+        };
     }
     let name = text(line, Seqadv::TARGET_NAME, faults);
     let number = signed(line, Seqadv::TARGET_NUMBER, name.faults);
     let text = name.value;
-    let value = Target::Residue { name: text, number: number.value };
+    let value = Target::Residue {
+        name: text,
+        number: number.value,
+    };
     let faults = number.faults;
     GotTarget { value, faults }
 }
@@ -71,7 +80,10 @@ pub fn lex_seqadv(line: &[u8]) -> Lexed
         comment,
     );
     let faults = target.faults;
-    Lexed { item: LexItem::Seqadv(seqadv), faults }
+    Lexed {
+        item: LexItem::Seqadv(seqadv),
+        faults,
+    }
 }
 
 pub fn lex_modres(line: &[u8]) -> Lexed
@@ -96,5 +108,8 @@ pub fn lex_modres(line: &[u8]) -> Lexed
         comment,
     );
     let faults = standard.faults;
-    Lexed { item: LexItem::Modres(modres), faults }
+    Lexed {
+        item: LexItem::Modres(modres),
+        faults,
+    }
 }

@@ -4,14 +4,12 @@ ghost use Prim.Native.Nat.{_+_, _≤_};
 ghost use lib.ListN.{length};
 ghost use Rattle.records.specs.Seqres as specs;
 ghost use Rattle.records.specs.Lexed.{alone, lexedBy};
-
+use crate::Lexed;
 use field::number_field::unsigned;
 use field::text_field::character;
 use lexitem::fault::Faults;
 use lexitem::item::LexItem;
 use lexitem::seqres::Seqres;
-
-use crate::Lexed;
 
 // Whether three blanks stand at a column, all three in the line.
 fn is_blank_triple(line: &[u8], at: usize) -> bool
@@ -55,5 +53,8 @@ pub fn lex_seqres(line: &[u8]) -> Lexed
     let of = chain.value;
     let seqres = Seqres::new(serial.value, of, residues.value, count_triples(line));
     let faults = residues.faults;
-    Lexed { item: LexItem::Seqres(seqres), faults }
+    Lexed {
+        item: LexItem::Seqres(seqres),
+        faults,
+    }
 }

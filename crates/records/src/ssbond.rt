@@ -2,15 +2,18 @@
 ghost use mathlib.Core.Path.{_≡_};
 ghost use Rattle.records.specs.Ssbond as specs;
 ghost use Rattle.records.specs.Lexed.{alone, lineNoted, lexedBy};
-
-use field::number_field::{real, signed};
-use field::text_field::{character, optional, text};
+use crate::Lexed;
+use field::number_field::real;
+use field::number_field::signed;
+use field::text_field::character;
+use field::text_field::optional;
+use field::text_field::text;
 use lexitem::columns::Columns;
 use lexitem::fault::Faults;
 use lexitem::item::LexItem;
-use lexitem::ssbond::{Residue, SSBond, Tail};
-
-use crate::Lexed;
+use lexitem::ssbond::Residue;
+use lexitem::ssbond::SSBond;
+use lexitem::ssbond::Tail;
 
 pub struct GotResidue {
     pub value: Residue,
@@ -23,7 +26,14 @@ pub struct GotTail {
 }
 
 // One side of the bond.
-fn lex_residue(line: &[u8], name: Columns, chain: u16, number: Columns, insertion: u16, faults: Faults) -> GotResidue
+fn lex_residue(
+    line: &[u8],
+    name: Columns,
+    chain: u16,
+    number: Columns,
+    insertion: u16,
+    faults: Faults,
+) -> GotResidue
     ensures { λ r. ⌜ r ≡ specs.gotResidue (now (line .entry)) name chain number insertion faults ⌝ }
 {
     let name = text(line, name, faults);
@@ -42,14 +52,21 @@ fn lex_tail(line: &[u8], faults: Faults) -> GotTail
     ensures { λ r. ⌜ r ≡ specs.gotTail (now (line .entry)) faults ⌝ }
 {
     if line.len() < SSBond::LENGTH.end as usize {
-        return GotTail { value: Tail::NoBond, faults };
+        return GotTail {
+            value: Tail::NoBond,
+            faults,
+        };
     }
     let first = text(line, SSBond::OPERATOR, faults);
     let second = text(line, SSBond::OTHER_OPERATOR, first.faults);
     let length = real(line, SSBond::LENGTH, 0.0, second.faults);
     let one = first.value;
     let other = second.value;
-    let value = Tail::Bond { first: one, second: other, length: length.value };
+    let value = Tail::Bond {
+        first: one,
+        second: other,
+        length: length.value,
+    };
     let faults = length.faults;
     GotTail { value, faults }
 }
@@ -57,7 +74,14 @@ fn lex_tail(line: &[u8], faults: Faults) -> GotTail
 pub fn lex_ssbond(line: &[u8]) -> Lexed
     ensures { λ r. ⌜ r ≡ lexedBy (alone (now (line .entry))) (specs.ssbondTable (specs.hasTail (now (line .entry)))) (LexItem.SSBond (specs.ssbondOf (now (line .entry)))) ⌝ }
 {
-    let first = lex_residue(line, SSBond::NAME, SSBond::CHAIN, SSBond::NUMBER, SSBond::INSERTION, Faults::none());
+    let first = lex_residue(
+        line,
+        SSBond::NAME,
+        SSBond::CHAIN,
+        SSBond::NUMBER,
+        SSBond::INSERTION,
+        Faults::none(),
+    );
     let second = lex_residue(
         line,
         SSBond::OTHER_NAME,
@@ -70,5 +94,8 @@ pub fn lex_ssbond(line: &[u8]) -> Lexed
     let bond = tail.value;
     let ssbond = SSBond::new(first.value, second.value, bond);
     let faults = tail.faults;
-    Lexed { item: LexItem::SSBond(ssbond), faults }
+    Lexed {
+        item: LexItem::SSBond(ssbond),
+        faults,
+    }
 }

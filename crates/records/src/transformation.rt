@@ -2,13 +2,15 @@
 ghost use mathlib.Core.Path.{_≡_};
 ghost use Rattle.records.specs.Transformation as specs;
 ghost use Rattle.records.specs.Lexed.{alone, lineNoted, lexedBy};
-
-use field::number_field::{real, unsigned};
+use crate::Lexed;
+use field::number_field::real;
+use field::number_field::unsigned;
 use lexitem::fault::Faults;
 use lexitem::item::LexItem;
-use lexitem::transformation::{MtriX, OrigX, Row, Scale};
-
-use crate::Lexed;
+use lexitem::transformation::MtriX;
+use lexitem::transformation::OrigX;
+use lexitem::transformation::Row;
+use lexitem::transformation::Scale;
 
 pub struct GotRow {
     pub value: Row,
@@ -33,7 +35,10 @@ pub fn lex_scale(line: &[u8], row: usize) -> Lexed
     let values = lex_transformation(line, Faults::none());
     let scale = Scale::new(row, values.value);
     let faults = values.faults;
-    Lexed { item: LexItem::Scale(scale), faults }
+    Lexed {
+        item: LexItem::Scale(scale),
+        faults,
+    }
 }
 
 pub fn lex_origx(line: &[u8], row: usize) -> Lexed
@@ -42,7 +47,10 @@ pub fn lex_origx(line: &[u8], row: usize) -> Lexed
     let values = lex_transformation(line, Faults::none());
     let origx = OrigX::new(row, values.value);
     let faults = values.faults;
-    Lexed { item: LexItem::OrigX(origx), faults }
+    Lexed {
+        item: LexItem::OrigX(origx),
+        faults,
+    }
 }
 
 // Whether the matrix is given: a `1` in its column.
@@ -62,5 +70,8 @@ pub fn lex_mtrix(line: &[u8], row: usize) -> Lexed
     let values = lex_transformation(line, serial.faults);
     let mtrix = MtriX::new(row, serial.value, values.value, is_given(line));
     let faults = values.faults;
-    Lexed { item: LexItem::MtriX(mtrix), faults }
+    Lexed {
+        item: LexItem::MtriX(mtrix),
+        faults,
+    }
 }

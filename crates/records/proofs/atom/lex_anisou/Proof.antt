@@ -18,11 +18,12 @@ new-requires c κs = search needs
 
 returns : tie.Need-returns
 returns c =
-    simp
-    (c .before .before .before .before .none .ensures,
-    c .before .before .before .lex-factors .ensures,
-    c .before .before .lex-atom-basics .ensures,
-    c .before .new .ensures)
+    simp (
+      c .before .before .before .before .none .ensures,
+      c .before .before .before .lex-factors .ensures,
+      c .before .before .lex-atom-basics .ensures,
+      c .before .new .ensures,
+    )
 
 pub lex-anisou-spec : {M : Type 1} → statement M
 lex-anisou-spec =

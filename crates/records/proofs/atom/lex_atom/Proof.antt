@@ -26,13 +26,14 @@ new-requires c κs = search needs
 returns : tie.Need-returns
 unfolding ofBits
 returns c =
-    simp
-    (c .before .before .before .before .before .before .none .ensures,
-    c .before .before .before .before .before .lex-position .ensures,
-    c .before .before .before .before .real .ensures,
-    c .before .before .before .real2 .ensures,
-    c .before .before .lex-atom-basics .ensures,
-    c .before .new .ensures)
+    simp (
+      c .before .before .before .before .before .before .none .ensures,
+      c .before .before .before .before .before .lex-position .ensures,
+      c .before .before .before .before .real .ensures,
+      c .before .before .before .real2 .ensures,
+      c .before .before .lex-atom-basics .ensures,
+      c .before .new .ensures,
+    )
 
 pub lex-atom-spec : {M : Type 1} → statement M
 lex-atom-spec =

@@ -40,20 +40,21 @@ new-requires c κs = search needs
 
 returns : tie.Need-returns
 returns c =
-    simp
-    (c .before .before .before .before .before .before .before .before .before .before .before .before .before .unsigned .ensures,
-    c .before .before .before .before .before .before .before .before .before .before .before .before .text .ensures,
-    c .before .before .before .before .before .before .before .before .before .before .before .optional .ensures,
-    c .before .before .before .before .before .before .before .before .before .before .text2 .ensures,
-    c .before .before .before .before .before .before .before .before .before .character .ensures,
-    c .before .before .before .before .before .before .before .before .signed .ensures,
-    c .before .before .before .before .before .before .before .optional2 .ensures,
-    c .before .before .before .before .before .before .text3 .ensures,
-    c .before .before .before .before .before .text4 .ensures,
-    c .before .before .before .before .charge .ensures,
-    c .before .new .ensures,
-    signed-held,
-    charge-held)
+    simp (
+      c .before .before .before .before .before .before .before .before .before .before .before .before .before .unsigned .ensures,
+      c .before .before .before .before .before .before .before .before .before .before .before .before .text .ensures,
+      c .before .before .before .before .before .before .before .before .before .before .before .optional .ensures,
+      c .before .before .before .before .before .before .before .before .before .before .text2 .ensures,
+      c .before .before .before .before .before .before .before .before .before .character .ensures,
+      c .before .before .before .before .before .before .before .before .signed .ensures,
+      c .before .before .before .before .before .before .before .optional2 .ensures,
+      c .before .before .before .before .before .before .text3 .ensures,
+      c .before .before .before .before .before .text4 .ensures,
+      c .before .before .before .before .charge .ensures,
+      c .before .new .ensures,
+      signed-held,
+      charge-held,
+    )
 
 pub lex-atom-basics-spec : {M : Type 1} → statement M
 lex-atom-basics-spec =

@@ -27,14 +27,15 @@ new-requires c κs = search needs
 
 returns : tie.Need-returns
 returns c =
-    simp
-    (c .before .before .before .before .before .before .before .factor .ensures,
-    c .before .before .before .before .before .before .factor2 .ensures,
-    c .before .before .before .before .before .factor3 .ensures,
-    c .before .before .before .before .factor4 .ensures,
-    c .before .before .before .factor5 .ensures,
-    c .before .before .factor6 .ensures,
-    c .before .new .ensures)
+    simp (
+      c .before .before .before .before .before .before .before .factor .ensures,
+      c .before .before .before .before .before .before .factor2 .ensures,
+      c .before .before .before .before .before .factor3 .ensures,
+      c .before .before .before .before .factor4 .ensures,
+      c .before .before .before .factor5 .ensures,
+      c .before .before .factor6 .ensures,
+      c .before .new .ensures,
+    )
 
 pub lex-factors-spec : {M : Type 1} → statement M
 lex-factors-spec =

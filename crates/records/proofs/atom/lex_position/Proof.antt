@@ -20,11 +20,12 @@ new-requires c κs = search needs
 returns : tie.Need-returns
 unfolding ofBits
 returns c =
-    simp
-    (c .before .before .before .before .real .ensures,
-    c .before .before .before .real2 .ensures,
-    c .before .before .real3 .ensures,
-    c .before .new .ensures)
+    simp (
+      c .before .before .before .before .real .ensures,
+      c .before .before .before .real2 .ensures,
+      c .before .before .real3 .ensures,
+      c .before .new .ensures,
+    )
 
 pub lex-position-spec : {M : Type 1} → statement M
 lex-position-spec =

@@ -29,14 +29,15 @@ new-requires c κs = search needs
 returns : tie.Need-returns
 unfolding ofBits
 returns c =
-    simp
-    (c .before .before .before .before .before .before .before .real .ensures,
-    c .before .before .before .before .before .before .real2 .ensures,
-    c .before .before .before .before .before .real3 .ensures,
-    c .before .before .before .before .real4 .ensures,
-    c .before .before .before .real5 .ensures,
-    c .before .before .real6 .ensures,
-    c .before .new .ensures)
+    simp (
+      c .before .before .before .before .before .before .before .real .ensures,
+      c .before .before .before .before .before .before .real2 .ensures,
+      c .before .before .before .before .before .real3 .ensures,
+      c .before .before .before .before .real4 .ensures,
+      c .before .before .before .real5 .ensures,
+      c .before .before .real6 .ensures,
+      c .before .new .ensures,
+    )
 
 pub lex-cell-spec : {M : Type 1} → statement M
 lex-cell-spec =

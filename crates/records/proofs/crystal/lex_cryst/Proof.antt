@@ -23,12 +23,13 @@ new-requires c κs = search needs
 returns : tie.Need-returns
 unfolding ofBits
 returns c =
-    simp
-    (c .before .before .before .before .before .none .ensures,
-    c .before .before .before .before .lex-cell .ensures,
-    c .before .before .before .text-within .ensures,
-    c .before .before .lex-z .ensures,
-    c .before .new .ensures)
+    simp (
+      c .before .before .before .before .before .none .ensures,
+      c .before .before .before .before .lex-cell .ensures,
+      c .before .before .before .text-within .ensures,
+      c .before .before .lex-z .ensures,
+      c .before .new .ensures,
+    )
 
 pub lex-cryst-spec : {M : Type 1} → statement M
 lex-cryst-spec =

@@ -33,16 +33,17 @@ new-requires c κs = search needs
 
 returns : tie.Need-returns
 returns c =
-    simp
-    (c .before .before .before .before .before .before .before .before .before .none .ensures,
-    c .before .before .before .before .before .before .before .before .text .ensures,
-    c .before .before .before .before .before .before .before .text2 .ensures,
-    c .before .before .before .before .before .before .lex-segment .ensures,
-    c .before .before .before .before .before .text3 .ensures,
-    c .before .before .before .before .text4 .ensures,
-    c .before .before .before .text5 .ensures,
-    c .before .before .lex-segment2 .ensures,
-    c .before .new .ensures)
+    simp (
+      c .before .before .before .before .before .before .before .before .before .none .ensures,
+      c .before .before .before .before .before .before .before .before .text .ensures,
+      c .before .before .before .before .before .before .before .text2 .ensures,
+      c .before .before .before .before .before .before .lex-segment .ensures,
+      c .before .before .before .before .before .text3 .ensures,
+      c .before .before .before .before .text4 .ensures,
+      c .before .before .before .text5 .ensures,
+      c .before .before .lex-segment2 .ensures,
+      c .before .new .ensures,
+    )
 
 pub lex-dbref-spec : {M : Type 1} → statement M
 lex-dbref-spec =

@@ -28,15 +28,16 @@ new-requires c κs = search needs
 
 returns : tie.Need-returns
 returns c =
-    simp
-    (c .before .before .before .before .before .before .before .before .before .none .ensures,
-    c .before .before .before .before .before .before .before .before .text .ensures,
-    c .before .before .before .before .before .before .before .text2 .ensures,
-    c .before .before .before .before .before .before .text3 .ensures,
-    c .before .before .before .before .before .signed .ensures,
-    c .before .before .before .before .signed2 .ensures,
-    c .before .new .ensures,
-    signed-held)
+    simp (
+      c .before .before .before .before .before .before .before .before .before .none .ensures,
+      c .before .before .before .before .before .before .before .before .text .ensures,
+      c .before .before .before .before .before .before .before .text2 .ensures,
+      c .before .before .before .before .before .before .text3 .ensures,
+      c .before .before .before .before .before .signed .ensures,
+      c .before .before .before .before .signed2 .ensures,
+      c .before .new .ensures,
+      signed-held,
+    )
 
 pub lex-dbref2-spec : {M : Type 1} → statement M
 lex-dbref2-spec =

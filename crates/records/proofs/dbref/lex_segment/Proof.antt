@@ -22,13 +22,14 @@ new-requires c κs = search needs
 
 returns : tie.Need-returns
 returns c =
-    simp
-    (c .before .before .before .before .before .before .before .signed .ensures,
-    c .before .before .before .before .before .before .character .ensures,
-    c .before .before .before .before .before .signed2 .ensures,
-    c .before .before .before .before .character2 .ensures,
-    c .before .new .ensures,
-    signed-held)
+    simp (
+      c .before .before .before .before .before .before .before .signed .ensures,
+      c .before .before .before .before .before .before .character .ensures,
+      c .before .before .before .before .before .signed2 .ensures,
+      c .before .before .before .before .character2 .ensures,
+      c .before .new .ensures,
+      signed-held,
+    )
 
 pub lex-segment-spec : {M : Type 1} → statement M
 lex-segment-spec =

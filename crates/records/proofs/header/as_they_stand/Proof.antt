@@ -18,9 +18,10 @@ new-requires c κs = search needs
 
 returns : tie.Need-returns
 returns c =
-    simp
-    (c .before .width .ensures,
-    c .new .ensures)
+    simp (
+      c .before .width .ensures,
+      c .new .ensures,
+    )
 
 pub as-they-stand-spec : {M : Type 1} → statement M
 as-they-stand-spec = tie.close (tie.spec cast-new width-requires cast-new-2 new-requires returns)

@@ -21,12 +21,13 @@ none-requires c κs = search needs
 
 returns : tie.Need-returns
 returns c =
-    simp
-    (c .before .before .before .before .as-they-stand .ensures,
-    c .before .before .before .as-they-stand2 .ensures,
-    c .before .before .as-they-stand3 .ensures,
-    c .before .new .ensures,
-    c .none .ensures)
+    simp (
+      c .before .before .before .before .as-they-stand .ensures,
+      c .before .before .before .as-they-stand2 .ensures,
+      c .before .before .as-they-stand3 .ensures,
+      c .before .new .ensures,
+      c .none .ensures,
+    )
 
 pub lex-header-spec : {M : Type 1} → statement M
 lex-header-spec =

@@ -21,12 +21,13 @@ new-requires c κs = search needs
 
 returns : tie.Need-returns
 returns c =
-    simp
-    (c .before .before .before .before .none .ensures,
-    c .before .before .before .unsigned .ensures,
-    c .before .before .known .ensures,
-    c .before .end-text-from .ensures,
-    c .new .ensures)
+    simp (
+      c .before .before .before .before .none .ensures,
+      c .before .before .before .unsigned .ensures,
+      c .before .before .known .ensures,
+      c .before .end-text-from .ensures,
+      c .new .ensures,
+    )
 
 pub lex-remark-spec : {M : Type 1} → statement M
 lex-remark-spec =

@@ -48,21 +48,22 @@ new-requires c κs = search needs
 
 returns : tie.Need-returns
 returns c =
-    simp
-    (c .before .before .before .before .before .before .before .before .before .before .before .before .before .before .none .ensures,
-    c .before .before .before .before .before .before .before .before .before .before .before .before .before .unsigned .ensures,
-    c .before .before .before .before .before .before .before .before .before .before .before .before .unsigned2 .ensures,
-    c .before .before .before .before .before .before .before .before .before .before .before .unsigned3 .ensures,
-    c .before .before .before .before .before .before .before .before .before .before .unsigned4 .ensures,
-    c .before .before .before .before .before .before .before .before .before .unsigned5 .ensures,
-    c .before .before .before .before .before .before .before .before .unsigned6 .ensures,
-    c .before .before .before .before .before .before .before .unsigned7 .ensures,
-    c .before .before .before .before .before .before .unsigned8 .ensures,
-    c .before .before .before .before .before .unsigned9 .ensures,
-    c .before .before .before .before .unsigned10 .ensures,
-    c .before .before .before .unsigned11 .ensures,
-    c .before .before .unsigned12 .ensures,
-    c .before .new .ensures)
+    simp (
+      c .before .before .before .before .before .before .before .before .before .before .before .before .before .before .none .ensures,
+      c .before .before .before .before .before .before .before .before .before .before .before .before .before .unsigned .ensures,
+      c .before .before .before .before .before .before .before .before .before .before .before .before .unsigned2 .ensures,
+      c .before .before .before .before .before .before .before .before .before .before .before .unsigned3 .ensures,
+      c .before .before .before .before .before .before .before .before .before .before .unsigned4 .ensures,
+      c .before .before .before .before .before .before .before .before .before .unsigned5 .ensures,
+      c .before .before .before .before .before .before .before .before .unsigned6 .ensures,
+      c .before .before .before .before .before .before .before .unsigned7 .ensures,
+      c .before .before .before .before .before .before .unsigned8 .ensures,
+      c .before .before .before .before .before .unsigned9 .ensures,
+      c .before .before .before .before .unsigned10 .ensures,
+      c .before .before .before .unsigned11 .ensures,
+      c .before .before .unsigned12 .ensures,
+      c .before .new .ensures,
+    )
 
 pub lex-master-spec : {M : Type 1} → statement M
 lex-master-spec =

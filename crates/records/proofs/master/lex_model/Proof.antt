@@ -15,10 +15,11 @@ new-requires c κs = search needs
 
 returns : tie.Need-returns
 returns c =
-    simp
-    (c .before .before .before .none .ensures,
-    c .before .before .unsigned-from .ensures,
-    c .new .ensures)
+    simp (
+      c .before .before .before .none .ensures,
+      c .before .before .unsigned-from .ensures,
+      c .new .ensures,
+    )
 
 pub lex-model-spec : {M : Type 1} → statement M
 lex-model-spec = tie.close (tie.spec none-requires unsigned-from-requires new-requires returns)

@@ -34,17 +34,18 @@ new-requires c κs = search needs
 
 returns : tie.Need-returns
 returns c =
-    simp
-    (c .before .before .before .before .before .before .before .before .before .before .none .ensures,
-    c .before .before .before .before .before .before .before .before .before .text .ensures,
-    c .before .before .before .before .before .before .before .before .text2 .ensures,
-    c .before .before .before .before .before .before .before .character .ensures,
-    c .before .before .before .before .before .before .signed .ensures,
-    c .before .before .before .before .before .optional .ensures,
-    c .before .before .before .before .text3 .ensures,
-    c .before .before .before .text-from .ensures,
-    c .before .new .ensures,
-    signed-held)
+    simp (
+      c .before .before .before .before .before .before .before .before .before .before .none .ensures,
+      c .before .before .before .before .before .before .before .before .before .text .ensures,
+      c .before .before .before .before .before .before .before .before .text2 .ensures,
+      c .before .before .before .before .before .before .before .character .ensures,
+      c .before .before .before .before .before .before .signed .ensures,
+      c .before .before .before .before .before .optional .ensures,
+      c .before .before .before .before .text3 .ensures,
+      c .before .before .before .text-from .ensures,
+      c .before .new .ensures,
+      signed-held,
+    )
 
 pub lex-modres-spec : {M : Type 1} → statement M
 lex-modres-spec =

@@ -45,20 +45,21 @@ new-requires c κs = search needs
 returns : tie.Need-returns
 returns c =
     let l = c .before .before .before .before .before .before .before .before .before .before .before .before .before .before .args .line .now in
-    simp
-    (c .before .before .before .before .before .before .before .before .before .before .before .before .none .ensures,
-    c .before .before .before .before .before .before .before .before .before .before .before .text .ensures,
-    c .before .before .before .before .before .before .before .before .before .before .text2 .ensures,
-    c .before .before .before .before .before .before .before .before .before .text3 .ensures,
-    c .before .before .before .before .before .before .before .before .signed .ensures,
-    c .before .before .before .before .before .before .before .optional .ensures,
-    c .before .before .before .before .before .before .text4 .ensures,
-    c .before .before .before .before .before .text5 .ensures,
-    c .before .before .before .before .lex-target .ensures,
-    c .before .before .before .text-from .ensures,
-    c .before .new .ensures,
-    signed-held,
-    table-append (alone l) (targetTable (hasTarget l)))
+    simp (
+      c .before .before .before .before .before .before .before .before .before .before .before .before .none .ensures,
+      c .before .before .before .before .before .before .before .before .before .before .before .text .ensures,
+      c .before .before .before .before .before .before .before .before .before .before .text2 .ensures,
+      c .before .before .before .before .before .before .before .before .before .text3 .ensures,
+      c .before .before .before .before .before .before .before .before .signed .ensures,
+      c .before .before .before .before .before .before .before .optional .ensures,
+      c .before .before .before .before .before .before .text4 .ensures,
+      c .before .before .before .before .before .text5 .ensures,
+      c .before .before .before .before .lex-target .ensures,
+      c .before .before .before .text-from .ensures,
+      c .before .new .ensures,
+      signed-held,
+      table-append (alone l) (targetTable (hasTarget l)),
+    )
 
 pub lex-seqadv-spec : {M : Type 1} → statement M
 lex-seqadv-spec =

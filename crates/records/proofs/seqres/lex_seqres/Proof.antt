@@ -24,13 +24,14 @@ new-requires c κs = search needs
 
 returns : tie.Need-returns
 returns c =
-    simp
-    (c .before .before .before .before .before .before .none .ensures,
-    c .before .before .before .before .before .unsigned .ensures,
-    c .before .before .before .before .character .ensures,
-    c .before .before .before .unsigned2 .ensures,
-    c .before .before .count-triples .ensures,
-    c .before .new .ensures)
+    simp (
+      c .before .before .before .before .before .before .none .ensures,
+      c .before .before .before .before .before .unsigned .ensures,
+      c .before .before .before .before .character .ensures,
+      c .before .before .before .unsigned2 .ensures,
+      c .before .before .count-triples .ensures,
+      c .before .new .ensures,
+    )
 
 pub lex-seqres-spec : {M : Type 1} → statement M
 lex-seqres-spec =

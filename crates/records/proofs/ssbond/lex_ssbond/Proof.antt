@@ -23,12 +23,13 @@ new-requires c κs = search needs
 returns : tie.Need-returns
 unfolding ofBits
 returns c =
-    simp
-    (c .before .before .before .before .before .none .ensures,
-    c .before .before .before .before .lex-residue .ensures,
-    c .before .before .before .lex-residue2 .ensures,
-    c .before .before .lex-tail .ensures,
-    c .before .new .ensures)
+    simp (
+      c .before .before .before .before .before .none .ensures,
+      c .before .before .before .before .lex-residue .ensures,
+      c .before .before .before .lex-residue2 .ensures,
+      c .before .before .lex-tail .ensures,
+      c .before .new .ensures,
+    )
 
 pub lex-ssbond-spec : {M : Type 1} → statement M
 lex-ssbond-spec =

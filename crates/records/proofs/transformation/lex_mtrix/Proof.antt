@@ -23,12 +23,13 @@ new-requires c κs = search needs
 returns : tie.Need-returns
 unfolding ofBits
 returns c =
-    simp
-    (c .before .before .before .before .before .none .ensures,
-    c .before .before .before .before .unsigned .ensures,
-    c .before .before .before .lex-transformation .ensures,
-    c .before .before .is-given .ensures,
-    c .before .new .ensures)
+    simp (
+      c .before .before .before .before .before .none .ensures,
+      c .before .before .before .before .unsigned .ensures,
+      c .before .before .before .lex-transformation .ensures,
+      c .before .before .is-given .ensures,
+      c .before .new .ensures,
+    )
 
 pub lex-mtrix-spec : {M : Type 1} → statement M
 lex-mtrix-spec =

@@ -17,10 +17,11 @@ new-requires c κs = search needs
 returns : tie.Need-returns
 unfolding ofBits
 returns c =
-    simp
-    (c .before .before .before .none .ensures,
-    c .before .before .lex-transformation .ensures,
-    c .before .new .ensures)
+    simp (
+      c .before .before .before .none .ensures,
+      c .before .before .lex-transformation .ensures,
+      c .before .new .ensures,
+    )
 
 pub lex-scale-spec : {M : Type 1} → statement M
 lex-scale-spec =

@@ -1,0 +1,63 @@
+-- `kind::kind_of` meets its contract: a name is found by its number.
+-- Assumes nothing.
+use native.Mathlib.Omega.{arith}
+use borrow.Author.Tests.{lt-ltb, le-ltb}
+use lib.ListN.{length}
+use Rattle.kind.proofs.Laws.Table.{kind-by-front}
+use Rattle.kind.specs.Kind.{kindOf, names, shortNames}
+use borrow.Author.Needs.{needs}
+use Rattle.kind.proofs.kind_of.Statement.{statement}
+use Rattle.kind.proofs.kind_of.Tie as tie
+
+six-requires : tie.Need-six-requires
+six-requires c κs = search needs
+
+named-requires : tie.Need-named-requires
+named-requires c κs = search needs
+
+kept-requires : tie.Need-kept-requires
+kept-requires c κs = search needs
+
+returns : tie.Need-returns
+unfolding kindOf
+returns c =
+    let s = c .before .before .before .before in
+    let l = s .before .args .line .now in
+    let long = lt-ltb 6 (length l) (c .before .before .before .if1 .taken) in
+    let known = kind-by-front 6 names l (s .shared-slice-known .given) (omega arith) tt in
+    rw (long, known, ← c .before .before .six .ensures, ← c .before .named .ensures) (c .kept .ensures)
+
+three-requires : tie.Need-three-requires
+three-requires c κs = search needs
+
+named-short-requires : tie.Need-named-short-requires
+named-short-requires c κs = search needs
+
+returns-2 : tie.Need-returns-2
+unfolding kindOf
+returns-2 c =
+    let s = c .before .before .before .before in
+    let l = s .before .args .line .now in
+    let short = le-ltb 6 (length l) (c .before .before .before .if1 .left) in
+    let long = lt-ltb 2 (length l) (c .before .before .if2 .taken) in
+    let known = kind-by-front 3 shortNames l (s .shared-slice-known .given) (omega arith) tt in
+    rw (short, long, known, ← c .before .three .ensures) (c .named-short .ensures)
+
+returns-3 : tie.Need-returns-3
+unfolding kindOf
+returns-3 c =
+    let l = c .before .before .before .args .line .now in
+    rw (le-ltb 6 (length l) (c .before .if1 .left), le-ltb 2 (length l) (c .if2 .left))
+
+pub kind-of-spec : {M : Type 1} → statement M
+kind-of-spec =
+    tie.close
+    (tie.spec
+    six-requires
+    named-requires
+    kept-requires
+    returns
+    three-requires
+    named-short-requires
+    returns-2
+    returns-3)

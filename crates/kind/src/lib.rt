@@ -1,0 +1,156 @@
+// Which kind a line is, by its first bytes. A name is looked up as one number, its bytes being the digits.
+ghost use mathlib.Core.Path.{_≡_};
+ghost use Prim.Native.Nat.{_≤_};
+ghost use lib.ListN.{length, take};
+ghost use Rattle.kind.specs.Key.{keyOf, kindByKey};
+ghost use Rattle.kind.specs.Kind as specs;
+
+// SCALEn, ORIGXn and MTRIXn carry their row, n less one.
+pub enum Kind {
+    Empty,
+    Header,
+    Remark,
+    Atom,
+    Hetatm,
+    Anisou,
+    Cryst1,
+    Scale(usize),
+    Origx(usize),
+    Mtrix(usize),
+    Model,
+    Master,
+    Dbref,
+    Dbref1,
+    Dbref2,
+    Seqres,
+    Seqadv,
+    Modres,
+    Ssbond,
+    Endmdl,
+    Ter,
+    End,
+}
+
+fn wide(b: u8) -> u64
+    ensures { λ r. ⌜ r ≡ b ⌝ }
+{
+    b as u64
+}
+
+// The first three bytes as a number.
+fn three(line: &[u8]) -> u64
+    requires { ⌜ 3 ≤ length (now line) ⌝ }
+    ensures { λ r. ⌜ r ≡ keyOf (take 3 (now (line .entry))) ⌝ }
+{
+    (wide(line[0]) * 256 + wide(line[1])) * 256 + wide(line[2])
+}
+
+// The first six bytes as a number.
+fn six(line: &[u8]) -> u64
+    requires { ⌜ 6 ≤ length (now line) ⌝ }
+    ensures { λ r. ⌜ r ≡ keyOf (take 6 (now (line .entry))) ⌝ }
+{
+    let front = three(line);
+    ((front * 256 + wide(line[3])) * 256 + wide(line[4])) * 256 + wide(line[5])
+}
+
+fn named(key: u64) -> Kind
+    ensures { λ r. ⌜ r ≡ kindByKey key specs.names ⌝ }
+{
+    match key {
+        0x484541444552 => Kind::Header, // HEADER
+        0x52454d41524b => Kind::Remark, // REMARK
+        0x41544f4d2020 => Kind::Atom, // ATOM
+        0x414e49534f55 => Kind::Anisou, // ANISOU
+        0x48455441544d => Kind::Hetatm, // HETATM
+        0x435259535431 => Kind::Cryst1, // CRYST1
+        0x5343414c4531 => Kind::Scale(0), // SCALE1
+        0x5343414c4532 => Kind::Scale(1), // SCALE2
+        0x5343414c4533 => Kind::Scale(2), // SCALE3
+        0x4f5249475831 => Kind::Origx(0), // ORIGX1
+        0x4f5249475832 => Kind::Origx(1), // ORIGX2
+        0x4f5249475833 => Kind::Origx(2), // ORIGX3
+        0x4d5452495831 => Kind::Mtrix(0), // MTRIX1
+        0x4d5452495832 => Kind::Mtrix(1), // MTRIX2
+        0x4d5452495833 => Kind::Mtrix(2), // MTRIX3
+        0x4d4f44454c20 => Kind::Model, // MODEL
+        0x4d4153544552 => Kind::Master, // MASTER
+        0x444252454620 => Kind::Dbref, // DBREF
+        0x444252454631 => Kind::Dbref1, // DBREF1
+        0x444252454632 => Kind::Dbref2, // DBREF2
+        0x534551524553 => Kind::Seqres, // SEQRES
+        0x534551414456 => Kind::Seqadv, // SEQADV
+        0x4d4f44524553 => Kind::Modres, // MODRES
+        0x5353424f4e44 => Kind::Ssbond, // SSBOND
+        0x454e444d444c => Kind::Endmdl, // ENDMDL
+        0x544552202020 => Kind::Ter, // TER
+        0x454e44202020 => Kind::End, // END
+        _ => Kind::Empty,
+    }
+}
+
+fn named_short(key: u64) -> Kind
+    ensures { λ r. ⌜ r ≡ kindByKey key specs.shortNames ⌝ }
+{
+    match key {
+        0x544552 => Kind::Ter,
+        0x454e44 => Kind::End,
+        _ => Kind::Empty,
+    }
+}
+
+// Whether atoms only keeps a kind.
+fn is_kept(kind: Kind) -> bool
+    ensures { λ r. ⌜ r ≡ specs.keptByAtoms kind ⌝ }
+{
+    match kind {
+        Kind::Empty => true,
+        Kind::Header => false,
+        Kind::Remark => false,
+        Kind::Atom => true,
+        Kind::Hetatm => true,
+        Kind::Anisou => false,
+        Kind::Cryst1 => false,
+        Kind::Scale(_) => false,
+        Kind::Origx(_) => false,
+        Kind::Mtrix(_) => false,
+        Kind::Model => true,
+        Kind::Master => false,
+        Kind::Dbref => false,
+        Kind::Dbref1 => false,
+        Kind::Dbref2 => false,
+        Kind::Seqres => false,
+        Kind::Seqadv => false,
+        Kind::Modres => false,
+        Kind::Ssbond => false,
+        Kind::Endmdl => true,
+        Kind::Ter => true,
+        Kind::End => true,
+    }
+}
+
+// The kind, or EMPTY if atoms only skips it.
+fn kept(atoms: bool, kind: Kind) -> Kind
+    ensures { λ r. ⌜ r ≡ specs.keptOf atoms kind ⌝ }
+{
+    if atoms {
+        if is_kept(kind) {
+            return kind;
+        }
+        return Kind::Empty;
+    }
+    kind
+}
+
+// The kind of a line, under atoms only or not.
+pub fn kind_of(atoms: bool, line: &[u8]) -> Kind
+    ensures { λ r. ⌜ r ≡ specs.kindOf atoms (now (line .entry)) ⌝ }
+{
+    if 6 < line.len() {
+        return kept(atoms, named(six(line)));
+    }
+    if 2 < line.len() {
+        return named_short(three(line));
+    }
+    Kind::Empty
+}

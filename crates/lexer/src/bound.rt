@@ -1,0 +1,104 @@
+// What a kind asks of its line, and the refusals that come of it.
+ghost use mathlib.Core.Path.{_≡_};
+ghost use Rattle.lexer.specs.Refusals as specs;
+ghost use Rattle.lexer.specs.Steps as steps;
+use kind::Kind;
+use lexitem::answer::Refusal;
+use lexitem::crystal::Crystal;
+use lexitem::header::Header;
+use lexitem::header::Remark;
+use lexitem::seqadv::Modres;
+use lexitem::seqadv::Seqadv;
+use lexitem::ssbond::SSBond;
+use number::trim::kept_length;
+
+// HEADER asks for all of its columns, REMARK for not too many, some kinds for a least length, the rest for nothing.
+pub enum Bound {
+    Header,
+    Remark,
+    Least(usize),
+    Free,
+}
+
+pub fn bound_of(kind: Kind) -> Bound
+    ensures { λ r. ⌜ r ≡ specs.boundOf kind ⌝ }
+{
+    match kind {
+        Kind::Empty => Bound::Free,
+        Kind::Header => Bound::Header,
+        Kind::Remark => Bound::Remark,
+        Kind::Atom => Bound::Free,
+        Kind::Hetatm => Bound::Free,
+        Kind::Anisou => Bound::Free,
+        Kind::Cryst1 => Bound::Least(Crystal::SPACEGROUP.start as usize),
+        Kind::Scale(_) => Bound::Free,
+        Kind::Origx(_) => Bound::Free,
+        Kind::Mtrix(_) => Bound::Free,
+        Kind::Model => Bound::Free,
+        Kind::Master => Bound::Free,
+        Kind::Dbref => Bound::Free,
+        Kind::Dbref1 => Bound::Free,
+        Kind::Dbref2 => Bound::Free,
+        Kind::Seqres => Bound::Free,
+        Kind::Seqadv => Bound::Least(Seqadv::COMMENT as usize),
+        Kind::Modres => Bound::Least(Modres::COMMENT as usize),
+        Kind::Ssbond => Bound::Least(SSBond::OTHER_INSERTION as usize + 1),
+        Kind::Endmdl => Bound::Free,
+        Kind::Ter => Bound::Free,
+        Kind::End => Bound::Free,
+    }
+}
+
+// The place that a cut HEADER's refusal names.
+const HEADER_PLACE: usize = 11;
+
+fn header_refusal(line: &[u8]) -> Refusal
+    ensures { λ r. ⌜ r ≡ steps.headerRefusal (now (line .entry)) ⌝ }
+{
+    let n = line.len();
+    if Header::CODE.end as usize <= n {
+        return Refusal::new(0, 0, 0);
+    }
+    if n < HEADER_PLACE {
+        return Refusal::new(4, HEADER_PLACE, 0);
+    }
+    Refusal::new(4, HEADER_PLACE, n - HEADER_PLACE)
+}
+
+fn remark_refusal(line: &[u8], loose: bool) -> Refusal
+    ensures { λ r. ⌜ r ≡ steps.remarkRefusal (now (line .entry)) loose ⌝ }
+{
+    let n = line.len();
+    if loose {
+        return Refusal::new(0, 0, 0);
+    }
+    if n <= Remark::TEXT as usize {
+        return Refusal::new(0, 0, 0);
+    }
+    if kept_length(line) < Remark::LIMIT {
+        return Refusal::new(0, 0, 0);
+    }
+    Refusal::new(5, Remark::LIMIT, n - Remark::LIMIT)
+}
+
+fn least_refusal(least: usize, line: &[u8]) -> Refusal
+    ensures { λ r. ⌜ r ≡ steps.leastRefusal least (now (line .entry)) ⌝ }
+{
+    let n = line.len();
+    if n < least {
+        return Refusal::new(6, n, least - n);
+    }
+    Refusal::new(0, 0, 0)
+}
+
+// The refusal of a line by its kind's bound, its number 0 where there is none.
+pub fn own_refusal(bound: Bound, line: &[u8], loose: bool) -> Refusal
+    ensures { λ r. ⌜ r ≡ steps.ownRefusal bound (now (line .entry)) loose ⌝ }
+{
+    match bound {
+        Bound::Header => header_refusal(line),
+        Bound::Remark => remark_refusal(line, loose),
+        Bound::Least(least) => least_refusal(least, line),
+        Bound::Free => Refusal::new(0, 0, 0),
+    }
+}

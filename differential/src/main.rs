@@ -1,0 +1,313 @@
+//! Compares the port with the Rust that it carries over, line by line; see README.md.
+
+mod columns;
+mod compare;
+mod domain;
+mod generate;
+mod good;
+mod oracle;
+mod page;
+mod port;
+mod random;
+mod rust;
+mod sample;
+mod shims;
+mod tables;
+mod tally;
+#[cfg(test)]
+mod tests;
+
+// The names that lexer.rs expects at the root of its crate.
+use shims::options::{ReadOptions, StrictnessLevel};
+use shims::{error, reference_tables};
+
+use compare::Desk;
+use domain::Class;
+use generate::{Input, Plan};
+use oracle::Oracle;
+use std::io::{self, Read, Write};
+use std::process::ExitCode;
+use std::sync::atomic::{AtomicU64, Ordering};
+use std::sync::Mutex;
+use std::thread;
+use std::time::Instant;
+use tables::Tables;
+use tally::{described, Shown, Tally};
+
+const USAGE: &str = "differential [--count N | --short] [--seed N] [--threads N] [--file FILE]..
+    compares N lines (10,000,000; short: 500,000); lines of each FILE come first, whole and damaged
+differential --list
+    what pdblist prints for standard input, by the oracle
+differential --sample PREFIX LINES [--seed N]
+    writes PREFIX-1.stdin and PREFIX-1.stdout, .. for pdblist to replay";
+
+const USUAL: u64 = 10_000_000;
+const SHORT: u64 = 500_000;
+const USUAL_SEED: u64 = 20_120_815;
+/// How many cases are drawn from to choose a sample.
+const SAMPLED: u64 = 2_000_000;
+/// How many cases a thread takes at a time.
+const STRIDE: u64 = 4096;
+
+enum Mode {
+    Compare,
+    List,
+    Sample(String, usize),
+}
+
+struct Words {
+    mode: Mode,
+    count: u64,
+    seed: u64,
+    threads: usize,
+    files: Vec<Vec<u8>>,
+}
+
+fn main() -> ExitCode {
+    let words = match words() {
+        Ok(words) => words,
+        Err(why) => {
+            eprintln!("{why}\n{USAGE}");
+            return ExitCode::from(2);
+        }
+    };
+    rust::expect_panics();
+    let tables = Tables::new(words.seed);
+    let done = match &words.mode {
+        Mode::Compare => return compare_all(words, &tables),
+        Mode::List => list(&tables),
+        Mode::Sample(prefix, count) => {
+            let plan = Plan::new(words.seed, SAMPLED, Vec::new());
+            sample::write(prefix, *count, &plan, &tables)
+        }
+    };
+    match done {
+        Ok(()) => ExitCode::SUCCESS,
+        Err(why) => {
+            eprintln!("differential: {why}");
+            ExitCode::FAILURE
+        }
+    }
+}
+
+fn words() -> Result<Words, String> {
+    let mut words = Words {
+        mode: Mode::Compare,
+        count: USUAL,
+        seed: USUAL_SEED,
+        threads: thread::available_parallelism().map_or(1, usize::from),
+        files: Vec::new(),
+    };
+    let mut given = std::env::args().skip(1);
+    while let Some(word) = given.next() {
+        let mut next = || given.next().ok_or(format!("{word} wants more"));
+        match word.as_str() {
+            "--count" => words.count = number(&next()?)?,
+            "--short" => words.count = SHORT,
+            "--seed" => words.seed = number(&next()?)?,
+            "--threads" => words.threads = number(&next()?)?.max(1) as usize,
+            "--file" => {
+                let name = next()?;
+                let file = std::fs::read(&name).map_err(|why| format!("{name}: {why}"))?;
+                words.files.extend(sample::lines(&file).map(<[u8]>::to_vec));
+            }
+            "--list" => words.mode = Mode::List,
+            "--sample" => words.mode = Mode::Sample(next()?, number(&next()?)? as usize),
+            _ => return Err(format!("{word} is not known")),
+        }
+    }
+    Ok(words)
+}
+
+fn number(word: &str) -> Result<u64, String> {
+    let plain: String = word.chars().filter(|sign| *sign != ',' && *sign != '_').collect();
+    plain.parse().map_err(|_| format!("{word} is no number"))
+}
+
+fn list(tables: &Tables) -> io::Result<()> {
+    let mut file = Vec::new();
+    io::stdin().read_to_end(&mut file)?;
+    let (printed, found) = sample::listed(&file, tables);
+    io::stdout().write_all(&printed)?;
+    match found.first() {
+        None => Ok(()),
+        Some(finding) => Err(io::Error::other(*finding)),
+    }
+}
+
+/// Runs every case and says what came of it: success if nothing was wrong.
+fn compare_all(words: Words, tables: &Tables) -> ExitCode {
+    let plan = Plan::new(words.seed, words.count, words.files);
+    println!("seed {}, {} lines", plan.seed, plan.count);
+    println!(
+        "the Rust: {}, {}",
+        env!("PDBTBX_SRC"),
+        match cfg!(debug_assertions) {
+            true => "with overflow checks",
+            false => "without overflow checks",
+        }
+    );
+    if !port::LINKED {
+        println!("the port: not linked; the Rust is held to 01 alone");
+    }
+    for (name, count) in plan.sections() {
+        println!("    {name}: {count}");
+    }
+
+    let start = Instant::now();
+    let next = AtomicU64::new(0);
+    let tally = Mutex::new(Tally::default());
+    thread::scope(|scope| {
+        for _ in 0..words.threads {
+            scope.spawn(|| {
+                let mine = run(&plan, tables, &next);
+                tally.lock().expect("no thread panics").add(mine);
+            });
+        }
+    });
+    let tally = tally.into_inner().expect("no thread panics");
+    let seconds = start.elapsed().as_secs_f64();
+    println!(
+        "{seconds:.1} s, {:.0} lines a second on {} threads",
+        plan.count as f64 / seconds,
+        words.threads
+    );
+    tally.print(tables, port::LINKED);
+    verdict(&tally, tables)
+}
+
+/// One thread's share of the cases.
+fn run(plan: &Plan, tables: &Tables, next: &AtomicU64) -> Tally {
+    let mut tally = Tally::default();
+    let mut oracle = Oracle::new();
+    let mut desk = Desk::new();
+    let mut input = Input::new();
+    loop {
+        let first = next.fetch_add(STRIDE, Ordering::Relaxed);
+        if first >= plan.count {
+            return tally;
+        }
+        for index in first..plan.count.min(first + STRIDE) {
+            plan.make(index, &mut input);
+            let verdict = oracle.answer(&input, tables);
+            let listing = oracle.page.bytes.as_slice();
+            tally.count(&input, &verdict, listing.len());
+            if port::LINKED {
+                let seen = desk.compare(&input, tables, &verdict, listing);
+                tally.count_port(&input, &verdict, &seen);
+            }
+        }
+    }
+}
+
+/// The last word: what was wrong, each with its smallest line.
+fn verdict(tally: &Tally, tables: &Tables) -> ExitCode {
+    let mut fine = true;
+    for (finding, (count, shown)) in &tally.findings {
+        fine = false;
+        println!("\nTHE RUST ISN'T AS 01 SAYS, in {count} lines: {finding}");
+        if let Some(shown) = shown {
+            println!("    {}", described(&shown.input, tables));
+        }
+    }
+    for ((class, name), part) in domain::CLASSES.iter().zip(&tally.parts) {
+        let Some(shown) = &part.smallest_wrong else {
+            continue;
+        };
+        fine = false;
+        let kept = match class {
+            Class::Domain => "the Rust's answer",
+            _ => "what 01 says",
+        };
+        println!("\nDIFFERENCE in {} lines: {name}; held to {kept}", part.wrong);
+        explain(shown, *class, tables);
+    }
+    let lines: u64 = tally.parts.iter().map(|part| part.lines).sum();
+    let domain = tally.parts[Class::Domain as usize].lines;
+    let what = match (fine, port::LINKED) {
+        (true, true) => "no difference",
+        (true, false) => "the Rust is as 01 says; no port was compared",
+        (false, _) => "DIFFERENT",
+    };
+    println!("\n{what}: {lines} lines, {domain} of them in the domain");
+    match fine {
+        true => ExitCode::SUCCESS,
+        false => ExitCode::FAILURE,
+    }
+}
+
+/// Shows a wrong case, made smaller as far as it stays wrong and in its class.
+fn explain(shown: &Shown, class: Class, tables: &Tables) {
+    let mut oracle = Oracle::new();
+    let mut desk = Desk::new();
+    let mut wrong = |input: &Input| {
+        let verdict = oracle.answer(input, tables);
+        let seen = desk.compare(input, tables, &verdict, &oracle.page.bytes);
+        match verdict.class == class {
+            true => seen.wrong,
+            false => None,
+        }
+    };
+    let mut input = shown.input.clone();
+    let mut why = shown.why;
+    'smaller: loop {
+        for other in smaller(&input) {
+            if let Some(other_why) = wrong(&other) {
+                (input, why) = (other, other_why);
+                continue 'smaller;
+            }
+        }
+        break;
+    }
+    println!("    {}", described(&input, tables));
+    println!("    not as it should be: {why}");
+    let verdict = oracle.answer(&input, tables);
+    println!("  should be:");
+    print_answer(verdict.refusal, &oracle.page.bytes);
+    let seen = desk.compare(&input, tables, &verdict, &oracle.page.bytes);
+    println!("  the port:");
+    print_answer(seen.refusal, &desk.listing(&input, tables));
+}
+
+/// Inputs that are a little smaller or plainer.
+fn smaller(input: &Input) -> Vec<Input> {
+    let mut all = Vec::new();
+    let mut add = |change: &dyn Fn(&mut Input)| {
+        let mut other = input.clone();
+        change(&mut other);
+        all.push(other);
+    };
+    for at in (0..input.line.len()).rev() {
+        add(&|other| {
+            other.line.remove(at);
+        });
+    }
+    for at in 0..input.line.len() {
+        if input.line[at] != b' ' {
+            add(&|other| other.line[at] = b' ');
+        }
+    }
+    if input.options != 0 {
+        add(&|other| other.options = 0);
+    }
+    if input.number != 1 {
+        add(&|other| other.number = 1);
+    }
+    if input.room != generate::ROOM {
+        add(&|other| other.room = generate::ROOM);
+    }
+    if input.table != tables::CRATE {
+        add(&|other| other.table = tables::CRATE);
+    }
+    all
+}
+
+fn print_answer(refusal: oracle::Refusal, listing: &[u8]) {
+    if refusal.number != 0 {
+        println!("    refusal={},{},{}", refusal.number, refusal.place, refusal.length);
+    } else {
+        for row in String::from_utf8_lossy(listing).lines() {
+            println!("    {row}");
+        }
+    }
+}

@@ -1,0 +1,265 @@
+//! What a run counts, and how it is printed.
+
+use crate::columns::KINDS;
+use crate::compare::Seen;
+use crate::domain::{Class, CLASSES};
+use crate::generate::Input;
+use crate::oracle::{Did, Verdict};
+use crate::page::Page;
+use crate::tables::Tables;
+use std::cmp::Ordering;
+use std::collections::BTreeMap;
+
+const CLASS_COUNT: usize = CLASSES.len();
+
+/// An input that is worth showing. Of two the smaller is kept: shorter, or the same length and
+/// less by its bytes.
+#[derive(Clone)]
+pub struct Shown {
+    pub input: Input,
+    pub why: &'static str,
+}
+
+impl Shown {
+    fn before(&self, other: &Shown) -> bool {
+        let key = |shown: &Shown| (shown.input.line.len(), shown.input.options, shown.input.room);
+        match key(self).cmp(&key(other)) {
+            Ordering::Equal => self.input.line < other.input.line,
+            order => order == Ordering::Less,
+        }
+    }
+}
+
+fn keep_smaller(kept: &mut Option<Shown>, input: &Input, why: &'static str) {
+    let longer = match kept {
+        Some(kept) => kept.input.line.len() < input.line.len(),
+        None => false,
+    };
+    if longer {
+        return;
+    }
+    let shown = Shown {
+        input: input.clone(),
+        why,
+    };
+    if kept.as_ref().is_none_or(|kept| shown.before(kept)) {
+        *kept = Some(shown);
+    }
+}
+
+/// One class of inputs: the domain, or one outside of it.
+#[derive(Clone, Default)]
+pub struct Part {
+    pub lines: u64,
+    /// Read, error, panic, not asked.
+    rust: [u64; 4],
+    /// By the refusal's number; 0 for a listing.
+    expected: [u64; 9],
+    port: [u64; 9],
+    pub wrong: u64,
+    pub smallest_wrong: Option<Shown>,
+    smallest: Option<Shown>,
+    panics: BTreeMap<(usize, u32), u64>,
+}
+
+#[derive(Clone, Default)]
+pub struct Tally {
+    pub parts: [Part; CLASS_COUNT],
+    /// In the domain, by kind: without a fault, with faults, and refusals by number.
+    kinds: [[u64; 11]; 28],
+    /// Faults of each kind, in the domain.
+    faults: [u64; 6],
+    options: [u64; 4],
+    pub findings: BTreeMap<&'static str, (u64, Option<Shown>)>,
+    pub wrote_when_asked: u64,
+    longest: usize,
+}
+
+impl Tally {
+    /// Counts one input and what it should give.
+    pub fn count(&mut self, input: &Input, verdict: &Verdict, listing: usize) {
+        let part = &mut self.parts[verdict.class as usize];
+        let refusal = verdict.refusal.number;
+        part.lines += 1;
+        part.rust[verdict.did as usize] += 1;
+        part.expected[refusal] += 1;
+        if verdict.did == Did::Panic {
+            *part.panics.entry((verdict.kind, verdict.panicked_at)).or_default() += 1;
+        }
+        self.options[(input.options % 4) as usize] += 1;
+        if verdict.class == Class::Domain {
+            let answer = match refusal {
+                0 if verdict.faults.iter().all(|count| *count == 0) => 0,
+                0 => 1,
+                number => 1 + number,
+            };
+            self.kinds[verdict.kind][answer] += 1;
+            if refusal == 0 {
+                for (sum, count) in self.faults.iter_mut().zip(verdict.faults) {
+                    *sum += u64::from(count);
+                }
+            }
+        } else {
+            keep_smaller(&mut part.smallest, input, "");
+        }
+        if refusal == 0 {
+            self.longest = self.longest.max(listing);
+        }
+        if let Some(finding) = verdict.finding {
+            let (count, smallest) = self.findings.entry(finding).or_default();
+            *count += 1;
+            keep_smaller(smallest, input, finding);
+        }
+    }
+
+    /// Counts what the port did.
+    pub fn count_port(&mut self, input: &Input, verdict: &Verdict, seen: &Seen) {
+        let part = &mut self.parts[verdict.class as usize];
+        part.port[seen.refusal.number.min(8)] += 1;
+        self.wrote_when_asked += u64::from(seen.wrote_when_asked);
+        if let Some(why) = seen.wrong {
+            part.wrong += 1;
+            keep_smaller(&mut part.smallest_wrong, input, why);
+        }
+    }
+
+    /// Adds another thread's counts.
+    pub fn add(&mut self, other: Tally) {
+        for (part, other) in self.parts.iter_mut().zip(other.parts) {
+            part.lines += other.lines;
+            part.wrong += other.wrong;
+            add_all(&mut part.rust, &other.rust);
+            add_all(&mut part.expected, &other.expected);
+            add_all(&mut part.port, &other.port);
+            for (at, count) in other.panics {
+                *part.panics.entry(at).or_default() += count;
+            }
+            for (kept, other) in [
+                (&mut part.smallest_wrong, other.smallest_wrong),
+                (&mut part.smallest, other.smallest),
+            ] {
+                if let Some(other) = other {
+                    keep_smaller(kept, &other.input, other.why);
+                }
+            }
+        }
+        for (kind, other) in self.kinds.iter_mut().zip(&other.kinds) {
+            add_all(kind, other);
+        }
+        add_all(&mut self.faults, &other.faults);
+        add_all(&mut self.options, &other.options);
+        for (finding, (count, shown)) in other.findings {
+            let (sum, smallest) = self.findings.entry(finding).or_default();
+            *sum += count;
+            if let Some(shown) = shown {
+                keep_smaller(smallest, &shown.input, finding);
+            }
+        }
+        self.wrote_when_asked += other.wrote_when_asked;
+        self.longest = self.longest.max(other.longest);
+    }
+
+    /// Prints all counts.
+    pub fn print(&self, tables: &Tables, port: bool) {
+        println!("\nIn demand 2's domain, by kind and answer:");
+        println!(
+            "{:10}{:>11}{:>11}{:>11}{:>10}{:>10}{:>10}",
+            "", "lines", "no fault", "faults", "refused 4", "refused 5", "refused 8"
+        );
+        let mut sums = [0; 11];
+        for (kind, counts) in KINDS.iter().zip(&self.kinds) {
+            print_kind(kind.name, counts);
+            add_all(&mut sums, counts);
+        }
+        print_kind("all", &sums);
+        println!(
+            "faults by kind: 1: {}, 2: {}, 3: {}, 4: {}, 5: {}",
+            self.faults[1], self.faults[2], self.faults[3], self.faults[4], self.faults[5]
+        );
+        println!("longest listing: {} bytes", self.longest);
+        println!(
+            "options: none {}, atoms only {}, loose {}, both {}",
+            self.options[0], self.options[1], self.options[2], self.options[3]
+        );
+
+        println!("\nOutside of it, by class:");
+        for ((class, name), part) in CLASSES.iter().zip(&self.parts) {
+            if *class == Class::Domain {
+                continue;
+            }
+            println!("{name}: {} lines", part.lines);
+            let named = ["read", "error", "panic", "not asked"];
+            let rust: Vec<_> = named.iter().map(|name| name.to_string()).zip(part.rust).collect();
+            println!("    the Rust: {}", joined(&rust));
+            let panics: Vec<_> = part
+                .panics
+                .iter()
+                .map(|((kind, at), count)| (format!("{} at lexer.rs:{at}", KINDS[*kind].name), *count))
+                .collect();
+            if !panics.is_empty() {
+                println!("    its panics: {}", joined(&panics));
+            }
+            println!("    by 01: {}", joined(&answers(&part.expected)));
+            if port {
+                println!("    the port: {}", joined(&answers(&part.port)));
+            }
+            if let Some(shown) = &part.smallest {
+                println!("    smallest: {}", described(&shown.input, tables));
+            }
+        }
+        if port && self.wrote_when_asked > 0 {
+            println!(
+                "\nThe calls for a refusal wrote to the output of {} accepted lines.",
+                self.wrote_when_asked
+            );
+        }
+    }
+}
+
+fn add_all(sums: &mut [u64], others: &[u64]) {
+    for (sum, other) in sums.iter_mut().zip(others) {
+        *sum += other;
+    }
+}
+
+fn print_kind(name: &str, counts: &[u64; 11]) {
+    let lines: u64 = counts.iter().sum();
+    println!(
+        "{name:10}{lines:11}{:11}{:11}{:10}{:10}{:10}",
+        counts[0], counts[1], counts[5], counts[6], counts[9]
+    );
+}
+
+fn answers(counts: &[u64; 9]) -> Vec<(String, u64)> {
+    let name = |number| match number {
+        0 => "listed".to_string(),
+        number => format!("refusal {number}"),
+    };
+    (0..9).map(name).zip(*counts).collect()
+}
+
+/// The counts that aren't 0, with their names.
+fn joined(counts: &[(String, u64)]) -> String {
+    let some: Vec<_> = counts
+        .iter()
+        .filter(|(_, count)| *count > 0)
+        .map(|(name, count)| format!("{name} {count}"))
+        .collect();
+    some.join(", ")
+}
+
+/// An input in one line, its bytes escaped as in a listing.
+pub fn described(input: &Input, tables: &Tables) -> String {
+    let mut page = Page::new();
+    page.escaped(&input.line);
+    format!(
+        "'{}' ({} bytes; atoms only {}, loose {}, table: {}, line number {}, output {})",
+        String::from_utf8_lossy(&page.bytes),
+        input.line.len(),
+        u8::from(input.atoms_only()),
+        u8::from(input.loose()),
+        tables.all[input.table].name,
+        input.number,
+        input.room
+    )
+}
