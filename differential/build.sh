@@ -35,7 +35,7 @@ source=${PDBTBX_SRC:-$repository/../shared/docs/src}
 PDBTBX_SRC=$(cd "$source" && pwd)
 export PDBTBX_SRC
 
-words=(--edition 2021 --crate-name differential --check-cfg 'cfg(port)' -C opt-level=3)
+words=(--edition 2021 --crate-name differential --check-cfg 'cfg(port, test)' -C opt-level=3)
 [ $checked = no ] || words+=(-C overflow-checks=on -C debug-assertions=on)
 [ $test = no ] || words+=(--test)
 if [ $port = yes ]; then

@@ -126,19 +126,10 @@ const SSBOND: &[Field] = &[
 const SSBOND_WHOLE: usize = 78;
 
 const fn kind(name: &'static str, first: &'static [u8], fields: &'static [Field]) -> Kind {
-    Kind {
-        name,
-        first,
-        atoms: false,
-        least: 0,
-        fields,
-    }
+    Kind { name, first, atoms: false, least: 0, fields }
 }
 const fn kept(name: &'static str, first: &'static [u8], fields: &'static [Field]) -> Kind {
-    Kind {
-        atoms: true,
-        ..kind(name, first, fields)
-    }
+    Kind { atoms: true, ..kind(name, first, fields) }
 }
 const fn at_least(
     least: usize,
@@ -146,10 +137,7 @@ const fn at_least(
     first: &'static [u8],
     fields: &'static [Field],
 ) -> Kind {
-    Kind {
-        least,
-        ..kind(name, first, fields)
-    }
+    Kind { least, ..kind(name, first, fields) }
 }
 
 /// All kinds, EMPTY last.

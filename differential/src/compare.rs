@@ -27,10 +27,7 @@ pub struct Seen {
 impl Desk {
     pub fn new() -> Self {
         let pattern: Vec<u8> = (0..ROOM + BEHIND).map(|at| 0xC5 ^ (at % 251) as u8).collect();
-        Desk {
-            out: pattern.clone(),
-            pattern,
-        }
+        Desk { out: pattern.clone(), pattern }
     }
 
     /// Asks the port and compares. `listing` is what it should be if there is no refusal.
@@ -77,11 +74,7 @@ impl Desk {
             _ if touched && refusal.number != 0 => Some("the output of a refused line"),
             _ => None,
         };
-        Seen {
-            wrong,
-            refusal,
-            wrote_when_asked: touched && refusal.number == 0,
-        }
+        Seen { wrong, refusal, wrote_when_asked: touched && refusal.number == 0 }
     }
 
     /// The port's listing, however long it says that it is.

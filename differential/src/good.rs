@@ -37,7 +37,7 @@ pub const GOOD: [&[&str]; 28] = [
     ],
     &[
         "SCALE2      0.000000  0.011963  0.000000        0.00000                         ",
-        "SCALE2    1234567890.000000001-99999999.     +.5",
+        "SCALE2    1234567890.000000001-99999999.     +.5       ",
     ],
     &[
         "SCALE3     -0.000000 -0.000000  0.018837       -0.00000                         ",
@@ -77,15 +77,15 @@ pub const GOOD: [&[&str]; 28] = [
     ],
     &[
         "DBREF  4HHB A    1   141  UNP    P69905   HBA_HUMAN        1    141             ",
-        "DBREF  1ABC B  -5A   20B  GB     12345678 ABCDEFGHIJKL  -999X   999Y",
+        "DBREF  1ABC B   -5A   20B GB     12345678 ABCDEFGHIJKL  -999X   999Y",
     ],
     &[
         "DBREF1 2J83 A   61   322  UNP                  XYZ_METBA                        ",
-        "DBREF1 1ABC B  -5A    20B EMBL                 ABCDEFGHIJKLMNOPQRST",
+        "DBREF1 1ABC B   -5A 1999B EMBL                 ABCDEFGHIJKLMNOPQRST",
     ],
     &[
         "DBREF2 2J83 A     Q8TKT5                      61         322                    ",
-        "DBREF2 1ABC B     ABCDEFGHIJKLMNOPQRSTUV     -99999999    9999999999",
+        "DBREF2 1ABC B     ABCDEFGHIJKLMNOPQRSTUV     -999999999  9999999999",
     ],
     &[
         "SEQRES   1 A  141  VAL LEU SER PRO ALA ASP LYS THR ASN VAL LYS ALA ALA          ",

@@ -15,6 +15,7 @@ mod shims;
 mod tables;
 mod tally;
 #[cfg(test)]
+#[rustfmt::skip]
 mod tests;
 
 // The names that lexer.rs expects at the root of its crate.
@@ -32,17 +33,17 @@ use std::sync::Mutex;
 use std::thread;
 use std::time::Instant;
 use tables::Tables;
-use tally::{described, Shown, Tally};
+use tally::{described, shrunk, Shown, Tally};
 
 const USAGE: &str = "differential [--count N | --short] [--seed N] [--threads N] [--file FILE]..
-    compares N lines (10,000,000; short: 500,000); lines of each FILE come first, whole and damaged
+    compares N lines (10,000,000; short: 1,000,000); lines of each FILE come first, whole and damaged
 differential --list
     what pdblist prints for standard input, by the oracle
 differential --sample PREFIX LINES [--seed N]
     writes PREFIX-1.stdin and PREFIX-1.stdout, .. for pdblist to replay";
 
 const USUAL: u64 = 10_000_000;
-const SHORT: u64 = 500_000;
+const SHORT: u64 = 1_000_000;
 const USUAL_SEED: u64 = 20_120_815;
 /// How many cases are drawn from to choose a sample.
 const SAMPLED: u64 = 2_000_000;
@@ -243,63 +244,17 @@ fn explain(shown: &Shown, class: Class, tables: &Tables) {
     let mut wrong = |input: &Input| {
         let verdict = oracle.answer(input, tables);
         let seen = desk.compare(input, tables, &verdict, &oracle.page.bytes);
-        match verdict.class == class {
-            true => seen.wrong,
-            false => None,
-        }
+        seen.wrong.filter(|_| verdict.class == class)
     };
-    let mut input = shown.input.clone();
-    let mut why = shown.why;
-    'smaller: loop {
-        for other in smaller(&input) {
-            if let Some(other_why) = wrong(&other) {
-                (input, why) = (other, other_why);
-                continue 'smaller;
-            }
-        }
-        break;
-    }
+    let input = shrunk(&shown.input, |input| wrong(input).is_some());
     println!("    {}", described(&input, tables));
-    println!("    not as it should be: {why}");
+    println!("    not as it should be: {}", wrong(&input).unwrap_or(shown.why));
     let verdict = oracle.answer(&input, tables);
     println!("  should be:");
     print_answer(verdict.refusal, &oracle.page.bytes);
     let seen = desk.compare(&input, tables, &verdict, &oracle.page.bytes);
     println!("  the port:");
     print_answer(seen.refusal, &desk.listing(&input, tables));
-}
-
-/// Inputs that are a little smaller or plainer.
-fn smaller(input: &Input) -> Vec<Input> {
-    let mut all = Vec::new();
-    let mut add = |change: &dyn Fn(&mut Input)| {
-        let mut other = input.clone();
-        change(&mut other);
-        all.push(other);
-    };
-    for at in (0..input.line.len()).rev() {
-        add(&|other| {
-            other.line.remove(at);
-        });
-    }
-    for at in 0..input.line.len() {
-        if input.line[at] != b' ' {
-            add(&|other| other.line[at] = b' ');
-        }
-    }
-    if input.options != 0 {
-        add(&|other| other.options = 0);
-    }
-    if input.number != 1 {
-        add(&|other| other.number = 1);
-    }
-    if input.room != generate::ROOM {
-        add(&|other| other.room = generate::ROOM);
-    }
-    if input.table != tables::CRATE {
-        add(&|other| other.table = tables::CRATE);
-    }
-    all
 }
 
 fn print_answer(refusal: oracle::Refusal, listing: &[u8]) {

@@ -51,10 +51,7 @@ pub struct Oracle {
 
 impl Oracle {
     pub fn new() -> Self {
-        Oracle {
-            page: Page::new(),
-            masked: Vec::with_capacity(1024),
-        }
+        Oracle { page: Page::new(), masked: Vec::with_capacity(1024) }
     }
 
     pub fn answer(&mut self, input: &Input, tables: &Tables) -> Verdict {
@@ -198,11 +195,7 @@ impl Oracle {
 }
 
 fn refusal(number: usize, place: usize, length: usize) -> Refusal {
-    Refusal {
-        number,
-        place,
-        length,
-    }
+    Refusal { number, place, length }
 }
 
 fn reply_faults(reply: Option<Reply>) -> Option<usize> {
@@ -330,8 +323,10 @@ fn fields(item: &LexItem, page: &mut Page) -> bool {
             page.text(21, chain);
             page.signed(22, *residue_number);
             page.optional(26, insertion);
-            let [[u11, u12, u13], [u21, u22, u23], [u31, u32, u33]] = factors.map(|row| row.map(f64::to_bits));
-            for (column, bits) in [(28, u11), (35, u22), (42, u33), (49, u12), (56, u13), (63, u23)] {
+            let [[u11, u12, u13], [u21, u22, u23], [u31, u32, u33]] =
+                factors.map(|row| row.map(f64::to_bits));
+            for (column, bits) in [(28, u11), (35, u22), (42, u33), (49, u12), (56, u13), (63, u23)]
+            {
                 page.real(column, f64::from_bits(bits));
             }
             page.text(72, segment);
@@ -414,7 +409,13 @@ fn fields(item: &LexItem, page: &mut Page) -> bool {
             page.signed(62, *database_end);
             page.character(67, *database_insert_end);
         }
-        LexItem::Dbref1(code, chain, (begin, insert_begin, end, insert_end), database, database_code) => {
+        LexItem::Dbref1(
+            code,
+            chain,
+            (begin, insert_begin, end, insert_end),
+            database,
+            database_code,
+        ) => {
             page.text(7, code);
             page.text(12, chain);
             page.signed(14, *begin);

@@ -7,9 +7,7 @@ pub struct Page {
 
 impl Page {
     pub fn new() -> Self {
-        Page {
-            bytes: Vec::with_capacity(4096),
-        }
+        Page { bytes: Vec::with_capacity(4096) }
     }
 
     pub fn clear(&mut self) {

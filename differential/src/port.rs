@@ -58,7 +58,13 @@ entries!(
 );
 
 /// The refusal of a line, by the three calls that tell it.
-pub fn refusal(line: &[u8], number: usize, options: u32, remarks: &[u8], out: &mut [u8]) -> Refusal {
+pub fn refusal(
+    line: &[u8],
+    number: usize,
+    options: u32,
+    remarks: &[u8],
+    out: &mut [u8],
+) -> Refusal {
     Refusal {
         number: refusal_number(line, number, options, remarks, out),
         place: refusal_place(line, number, options, remarks, out),

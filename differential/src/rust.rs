@@ -54,9 +54,7 @@ pub fn ask(line: &str, number: usize, atoms_only: bool, loose: bool) -> Reply {
         only_atomic_coords: atoms_only,
     };
     ASKING.set(true);
-    let answer = panic::catch_unwind(AssertUnwindSafe(|| {
-        lexer::lex_line(line, number, &options)
-    }));
+    let answer = panic::catch_unwind(AssertUnwindSafe(|| lexer::lex_line(line, number, &options)));
     ASKING.set(false);
     match answer {
         Ok(Ok((item, errors))) => Reply::Read(item, errors),

@@ -1,7 +1,7 @@
 //! The oracle as 01's program `pdblist`: not loose, all kinds, every remark number valid. It lists
 //! a whole file, and writes samples that a program in the port's language can replay.
 
-use crate::columns::KINDS;
+use crate::columns::{EMPTY_AT, KINDS};
 use crate::domain::Class;
 use crate::generate::{Input, Plan, ROOM};
 use crate::oracle::Oracle;
@@ -51,19 +51,20 @@ pub fn lines(file: &[u8]) -> impl Iterator<Item = &[u8]> {
     })
 }
 
-/// What a line of the sample can show that others don't.
+/// What a line of the sample can show that others of its kind don't.
 #[derive(PartialEq, Eq, Hash)]
 enum Point {
-    Answer(usize, usize),
+    Refusal(usize, usize),
+    /// A fault, without its length, which may be the line's.
     Fault(usize, Vec<u8>),
     Faults(usize, Vec<u8>),
     Length(usize, usize),
 }
 
 /// Writes `count` lines as PREFIX-1.stdin, PREFIX-2.stdin, .., each at most 65,536 bytes long, with
-/// what `pdblist` prints for them in PREFIX-1.stdout, ... First come lines that show a refusal, a
-/// fault, a list of faults or a length that no earlier line of their kind shows; they fill at most
-/// two thirds. The rest is drawn from all sections, the same number for each kind.
+/// what `pdblist` prints for them in PREFIX-1.stdout, ... Chosen are all lines that show a refusal or
+/// a fault that no earlier line of their kind shows; up to half of the sample, lines with a new list
+/// of faults or a new length; and lines of all sections, the same number for each kind.
 pub fn write(prefix: &str, count: usize, plan: &Plan, tables: &Tables) -> io::Result<()> {
     let chosen = choose(count, plan, tables);
     let mut file: Vec<u8> = Vec::with_capacity(MOST);
@@ -105,45 +106,45 @@ fn choose(count: usize, plan: &Plan, tables: &Tables) -> Vec<Vec<u8>> {
     let mut others: Vec<Vec<Vec<u8>>> = vec![Vec::new(); KINDS.len()];
     let share = count.div_ceil(KINDS.len());
     for index in 0..plan.count {
-        // A stride that visits every section early.
+        // A stride that comes to every section early.
         let index = (u128::from(index) * 0x9E37_79B9_7F4A_7C15 % u128::from(plan.count)) as u64;
         plan.make(index, &mut input);
         input.options = 0;
         input.table = tables::ALL_VALID;
         input.room = ROOM;
         input.number = 1;
-        let plain = input.line.len() <= 1030
+        // Long lines only about the greatest length.
+        let plain = matches!(input.line.len(), 0..=120 | 1023..=1026)
             && input.line.iter().all(|byte| *byte < 128 && *byte != b'\n')
             && input.line.last() != Some(&b'\r');
         if !plain || seen.contains(&input.line) {
             continue;
         }
         let verdict = oracle.answer(&input, tables);
-        let (kind, number) = (verdict.kind, verdict.refusal.number);
-        if !matches!(
+        let answered = matches!(
             verdict.class,
             Class::Domain | Class::LongLine | Class::ShortHeader | Class::ShortLine
-        ) {
+        );
+        if !answered {
             continue;
         }
-        let mut new = points.insert(Point::Answer(kind, number));
-        if number == 0 {
-            let listing = oracle.page.bytes.as_slice();
-            let rows = listing.split(|byte| *byte == b'\n');
-            let faults: Vec<_> = rows.filter(|row| row.starts_with(b"fault=")).collect();
-            // A field that ends with the line has a fault of any length: its place is enough.
-            for row in &faults {
-                let end = row.iter().rposition(|byte| *byte == b',').unwrap_or(0);
-                new |= points.insert(Point::Fault(kind, row[..end].to_vec()));
-            }
-            if faults.len() != 1 && input.line.len() <= 100 {
-                new |= points.insert(Point::Faults(kind, faults.concat()));
-            }
+        let kind = match input.line.len() {
+            0..=1000 => verdict.kind,
+            _ => EMPTY_AT,
+        };
+        let listing = oracle.page.bytes.as_slice();
+        let rows = listing.split(|byte| *byte == b'\n');
+        let faults: Vec<_> = rows.filter(|row| row.starts_with(b"fault=")).collect();
+        let mut must = points.insert(Point::Refusal(kind, verdict.refusal.number));
+        must |= input.line.len() > 1000 && points.insert(Point::Length(kind, input.line.len()));
+        for row in &faults {
+            let end = row.iter().rposition(|byte| *byte == b',').unwrap_or(0);
+            must |= points.insert(Point::Fault(kind, row[..end].to_vec()));
         }
-        if input.line.len() <= 90 {
-            new |= points.insert(Point::Length(kind, input.line.len()));
-        }
-        if new && chosen.len() < count * 2 / 3 {
+        let short = input.line.len() <= 90 && !KINDS[kind].fields.is_empty();
+        let mut may = short && points.insert(Point::Length(kind, input.line.len()));
+        may |= short && faults.len() > 1 && points.insert(Point::Faults(kind, faults.concat()));
+        if must || may && chosen.len() < count / 2 {
             seen.insert(input.line.clone());
             chosen.push(input.line.clone());
         } else if others[kind].len() < share && input.line.len() <= 90 {
@@ -151,11 +152,9 @@ fn choose(count: usize, plan: &Plan, tables: &Tables) -> Vec<Vec<u8>> {
             others[kind].push(input.line.clone());
         }
     }
-    let mut at = 0;
-    while chosen.len() < count && at < share {
-        chosen.extend(others.iter().filter_map(|lines| lines.get(at).cloned()));
-        at += 1;
+    for at in 0..share {
+        let next = others.iter().filter_map(|lines| lines.get(at));
+        chosen.extend(next.take(count.saturating_sub(chosen.len())).cloned());
     }
-    chosen.truncate(count);
     chosen
 }

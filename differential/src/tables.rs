@@ -29,10 +29,7 @@ impl Tables {
         let mut random = Random::new(seed, u64::MAX);
         let mut all = Vec::new();
         let mut add = |name: String, bytes: Vec<u8>| {
-            all.push(Table {
-                name,
-                bytes: bytes.leak(),
-            });
+            all.push(Table { name, bytes: bytes.leak() });
         };
         add("the crate's".into(), crates_own());
         add("no number valid".into(), vec![0; 1000]);
@@ -73,7 +70,5 @@ impl Tables {
 
 /// The crate's own table, from its reference_tables.rs.
 pub fn crates_own() -> Vec<u8> {
-    (0..1000)
-        .map(|number| u8::from(reference_tables::valid_in_the_crate(number)))
-        .collect()
+    (0..1000).map(|number| u8::from(reference_tables::valid_in_the_crate(number))).collect()
 }

@@ -3,17 +3,16 @@
 use crate::columns::KINDS;
 use crate::compare::Seen;
 use crate::domain::{Class, CLASSES};
-use crate::generate::Input;
-use crate::oracle::{Did, Verdict};
+use crate::generate::{Input, ROOM};
+use crate::oracle::{Did, Oracle, Verdict};
 use crate::page::Page;
-use crate::tables::Tables;
-use std::cmp::Ordering;
-use std::collections::BTreeMap;
+use crate::tables::{self, Tables};
+use std::collections::{BTreeMap, BTreeSet};
 
 const CLASS_COUNT: usize = CLASSES.len();
 
-/// An input that is worth showing. Of two the smaller is kept: shorter, or the same length and
-/// less by its bytes.
+/// An input that is worth showing. Of two the smaller is kept: the shorter line, and among lines
+/// of one length an order that settles every tie, so that threads don't change what is shown.
 #[derive(Clone)]
 pub struct Shown {
     pub input: Input,
@@ -22,11 +21,11 @@ pub struct Shown {
 
 impl Shown {
     fn before(&self, other: &Shown) -> bool {
-        let key = |shown: &Shown| (shown.input.line.len(), shown.input.options, shown.input.room);
-        match key(self).cmp(&key(other)) {
-            Ordering::Equal => self.input.line < other.input.line,
-            order => order == Ordering::Less,
-        }
+        let key = |shown: &Shown| {
+            let input = &shown.input;
+            (input.line.len(), input.options, input.room, input.table, input.number)
+        };
+        (key(self), &self.input.line) < (key(other), &other.input.line)
     }
 }
 
@@ -38,10 +37,7 @@ fn keep_smaller(kept: &mut Option<Shown>, input: &Input, why: &'static str) {
     if longer {
         return;
     }
-    let shown = Shown {
-        input: input.clone(),
-        why,
-    };
+    let shown = Shown { input: input.clone(), why };
     if kept.as_ref().is_none_or(|kept| shown.before(kept)) {
         *kept = Some(shown);
     }
@@ -59,7 +55,16 @@ pub struct Part {
     pub wrong: u64,
     pub smallest_wrong: Option<Shown>,
     smallest: Option<Shown>,
-    panics: BTreeMap<(usize, u32), u64>,
+    /// By the line of lexer.rs.
+    panics: BTreeMap<u32, Panics>,
+}
+
+/// The panics at one line of lexer.rs.
+#[derive(Clone, Default)]
+struct Panics {
+    count: u64,
+    kinds: BTreeSet<usize>,
+    smallest: Option<Shown>,
 }
 
 #[derive(Clone, Default)]
@@ -67,6 +72,8 @@ pub struct Tally {
     pub parts: [Part; CLASS_COUNT],
     /// In the domain, by kind: without a fault, with faults, and refusals by number.
     kinds: [[u64; 11]; 28],
+    /// Outside of the domain, by kind.
+    outside: [u64; 28],
     /// Faults of each kind, in the domain.
     faults: [u64; 6],
     options: [u64; 4],
@@ -84,7 +91,10 @@ impl Tally {
         part.rust[verdict.did as usize] += 1;
         part.expected[refusal] += 1;
         if verdict.did == Did::Panic {
-            *part.panics.entry((verdict.kind, verdict.panicked_at)).or_default() += 1;
+            let panics = part.panics.entry(verdict.panicked_at).or_default();
+            panics.count += 1;
+            panics.kinds.insert(verdict.kind);
+            keep_smaller(&mut panics.smallest, input, "");
         }
         self.options[(input.options % 4) as usize] += 1;
         if verdict.class == Class::Domain {
@@ -100,6 +110,7 @@ impl Tally {
                 }
             }
         } else {
+            self.outside[verdict.kind] += 1;
             keep_smaller(&mut part.smallest, input, "");
         }
         if refusal == 0 {
@@ -131,8 +142,13 @@ impl Tally {
             add_all(&mut part.rust, &other.rust);
             add_all(&mut part.expected, &other.expected);
             add_all(&mut part.port, &other.port);
-            for (at, count) in other.panics {
-                *part.panics.entry(at).or_default() += count;
+            for (at, other) in other.panics {
+                let panics = part.panics.entry(at).or_default();
+                panics.count += other.count;
+                panics.kinds.extend(other.kinds);
+                if let Some(other) = other.smallest {
+                    keep_smaller(&mut panics.smallest, &other.input, other.why);
+                }
             }
             for (kept, other) in [
                 (&mut part.smallest_wrong, other.smallest_wrong),
@@ -146,6 +162,7 @@ impl Tally {
         for (kind, other) in self.kinds.iter_mut().zip(&other.kinds) {
             add_all(kind, other);
         }
+        add_all(&mut self.outside, &other.outside);
         add_all(&mut self.faults, &other.faults);
         add_all(&mut self.options, &other.options);
         for (finding, (count, shown)) in other.findings {
@@ -161,17 +178,16 @@ impl Tally {
 
     /// Prints all counts.
     pub fn print(&self, tables: &Tables, port: bool) {
-        println!("\nIn demand 2's domain, by kind and answer:");
-        println!(
-            "{:10}{:>11}{:>11}{:>11}{:>10}{:>10}{:>10}",
-            "", "lines", "no fault", "faults", "refused 4", "refused 5", "refused 8"
-        );
+        println!("\nIn demand 2's domain, by kind and answer; in the last column, outside of it:");
+        let heads =
+            ["lines", "no fault", "faults", "refused 4", "refused 5", "refused 8", "outside"];
+        println!("{:8}{}", "", heads.map(|head| format!("{head:>11}")).concat());
         let mut sums = [0; 11];
-        for (kind, counts) in KINDS.iter().zip(&self.kinds) {
-            print_kind(kind.name, counts);
+        for ((kind, counts), outside) in KINDS.iter().zip(&self.kinds).zip(self.outside) {
+            print_kind(kind.name, counts, outside);
             add_all(&mut sums, counts);
         }
-        print_kind("all", &sums);
+        print_kind("all", &sums, self.outside.iter().sum());
         println!(
             "faults by kind: 1: {}, 2: {}, 3: {}, 4: {}, 5: {}",
             self.faults[1], self.faults[2], self.faults[3], self.faults[4], self.faults[5]
@@ -191,20 +207,15 @@ impl Tally {
             let named = ["read", "error", "panic", "not asked"];
             let rust: Vec<_> = named.iter().map(|name| name.to_string()).zip(part.rust).collect();
             println!("    the Rust: {}", joined(&rust));
-            let panics: Vec<_> = part
-                .panics
-                .iter()
-                .map(|((kind, at), count)| (format!("{} at lexer.rs:{at}", KINDS[*kind].name), *count))
-                .collect();
-            if !panics.is_empty() {
-                println!("    its panics: {}", joined(&panics));
+            for (at, panics) in &part.panics {
+                panics.print(*at, *class, tables);
             }
             println!("    by 01: {}", joined(&answers(&part.expected)));
             if port {
                 println!("    the port: {}", joined(&answers(&part.port)));
             }
             if let Some(shown) = &part.smallest {
-                println!("    smallest: {}", described(&shown.input, tables));
+                print_smallest(shown, tables, |verdict| verdict.class == *class);
             }
         }
         if port && self.wrote_when_asked > 0 {
@@ -216,18 +227,39 @@ impl Tally {
     }
 }
 
+impl Panics {
+    fn print(&self, at: u32, class: Class, tables: &Tables) {
+        let names: Vec<_> = self.kinds.iter().map(|kind| KINDS[*kind].name).collect();
+        let kinds = match names.len() {
+            0..=4 => names.join(", "),
+            count => format!("{count} kinds"),
+        };
+        println!("    panics at lexer.rs:{at}: {} ({kinds})", self.count);
+        if let Some(shown) = &self.smallest {
+            print_smallest(shown, tables, |verdict| {
+                verdict.class == class && verdict.panicked_at == at
+            });
+        }
+    }
+}
+
+/// Prints an input made smaller as far as something holds of what is known about it.
+fn print_smallest(shown: &Shown, tables: &Tables, holds: impl Fn(&Verdict) -> bool) {
+    let mut oracle = Oracle::new();
+    let smallest = shrunk(&shown.input, |input| holds(&oracle.answer(input, tables)));
+    println!("        smallest: {}", described(&smallest, tables));
+}
+
 fn add_all(sums: &mut [u64], others: &[u64]) {
     for (sum, other) in sums.iter_mut().zip(others) {
         *sum += other;
     }
 }
 
-fn print_kind(name: &str, counts: &[u64; 11]) {
-    let lines: u64 = counts.iter().sum();
-    println!(
-        "{name:10}{lines:11}{:11}{:11}{:10}{:10}{:10}",
-        counts[0], counts[1], counts[5], counts[6], counts[9]
-    );
+fn print_kind(name: &str, counts: &[u64; 11], outside: u64) {
+    let lines = counts.iter().sum();
+    let row = [lines, counts[0], counts[1], counts[5], counts[6], counts[9], outside];
+    println!("{name:8}{}", row.map(|count| format!("{count:11}")).concat());
 }
 
 fn answers(counts: &[u64; 9]) -> Vec<(String, u64)> {
@@ -248,12 +280,22 @@ fn joined(counts: &[(String, u64)]) -> String {
     some.join(", ")
 }
 
-/// An input in one line, its bytes escaped as in a listing.
+/// An input in one line: its bytes escaped as in a listing, long rows of one byte counted.
 pub fn described(input: &Input, tables: &Tables) -> String {
     let mut page = Page::new();
-    page.escaped(&input.line);
+    for row in input.line.chunk_by(|one, other| one == other) {
+        if row.len() > 9 {
+            page.put("<");
+            page.decimal(row.len() as u64);
+            page.put(" of '");
+            page.escaped(&row[..1]);
+            page.put("'>");
+        } else {
+            page.escaped(row);
+        }
+    }
     format!(
-        "'{}' ({} bytes; atoms only {}, loose {}, table: {}, line number {}, output {})",
+        "[{}] {} bytes; atoms only {}, loose {}, table: {}, line number {}, output {}",
         String::from_utf8_lossy(&page.bytes),
         input.line.len(),
         u8::from(input.atoms_only()),
@@ -262,4 +304,46 @@ pub fn described(input: &Input, tables: &Tables) -> String {
         input.number,
         input.room
     )
+}
+
+/// An input made smaller and plainer, step by step, as long as something holds of it.
+pub fn shrunk(input: &Input, mut holds: impl FnMut(&Input) -> bool) -> Input {
+    let mut input = input.clone();
+    while let Some(other) = smaller(&input).into_iter().find(&mut holds) {
+        input = other;
+    }
+    input
+}
+
+/// Inputs that are a little smaller or plainer.
+fn smaller(input: &Input) -> Vec<Input> {
+    let mut all = Vec::new();
+    let mut add = |change: &dyn Fn(&mut Input)| {
+        let mut other = input.clone();
+        change(&mut other);
+        all.push(other);
+    };
+    if input.options != 0 {
+        add(&|other| other.options = 0);
+    }
+    if input.table != tables::CRATE {
+        add(&|other| other.table = tables::CRATE);
+    }
+    if input.room != ROOM {
+        add(&|other| other.room = ROOM);
+    }
+    if input.number != 1 {
+        add(&|other| other.number = 1);
+    }
+    for at in (0..input.line.len()).rev() {
+        add(&|other| {
+            other.line.remove(at);
+        });
+    }
+    for at in 0..input.line.len() {
+        if input.line[at] != b' ' {
+            add(&|other| other.line[at] = b' ');
+        }
+    }
+    all
 }

@@ -19,11 +19,7 @@ pub struct Context {
 
 impl Context {
     pub fn line(number: usize, _line: &str, place: usize, length: usize) -> Self {
-        Context {
-            number,
-            place,
-            length,
-        }
+        Context { number, place, length }
     }
 }
 
@@ -43,10 +39,6 @@ impl PDBError {
         _text: impl AsRef<str>,
         context: Context,
     ) -> Self {
-        PDBError {
-            level,
-            title,
-            context,
-        }
+        PDBError { level, title, context }
     }
 }

@@ -1,0 +1,61 @@
+-- `walker::lines::find_lf` meets its contract. The loop's invariant: the bytes before the LF are those passed and those before it in the rest.
+-- Assumes nothing.
+use Prim.Native.Nat.{_+_, _-_}
+use mathlib.Core.Path.{_≡_}
+use native.Mathlib.Omega.{arith}
+use borrow.Author.Needs.{needs}
+use lib.ListN.{length, drop}
+use Rattle.walker.specs.Lines.{beforeLf}
+use Rattle.walker.proofs.Laws.Pieces.{lf-here, lf-other, lf-none}
+use Rattle.walker.proofs.lines.find_lf.Statement.{statement}
+use Rattle.walker.proofs.lines.find_lf.Tie as tie
+
+abbrev Inv-loop : tie.InvT-loop
+Inv-loop file at i₀ i = i + beforeLf (drop i file) ≡ at + beforeLf (drop at file)
+
+abbrev μ-loop : tie.MeasureT-loop
+μ-loop file at i₀ i = length file - i
+
+loop-holds : tie.Need-loop-holds Inv-loop μ-loop
+loop-holds c = search needs
+
+shared-slice-read-if1 : tie.Need-shared-slice-read-if1 Inv-loop μ-loop
+shared-slice-read-if1 c = search needs
+
+returns : tie.Need-returns Inv-loop μ-loop
+returns c =
+    let f = c .before .before .before .before .args .file .now in
+    let i = c .before .before .before .loop .i in
+    omega (arith, lf-here f i (c .before .before .loop-test .taken) (c .if1 .taken))
+
+add-i : tie.Need-add-i Inv-loop μ-loop
+add-i c = search needs
+
+loop-less : tie.Need-loop-less Inv-loop μ-loop
+loop-less c = search needs
+
+loop-again : tie.Need-loop-again Inv-loop μ-loop
+loop-again c =
+    let f = c .before .before .before .before .args .file .now in
+    let i = c .before .before .before .loop .i in
+    omega (arith, lf-other f i (c .before .before .loop-test .taken) (c .if1 .left))
+
+returns-2 : tie.Need-returns-2 Inv-loop μ-loop
+returns-2 c =
+    let f = c .before .before .args .file .now in
+    let i = c .before .loop .i in
+    omega (arith, lf-none f i (c .loop-test .left))
+
+pub find-lf-spec : {M : Type 1} → statement M
+find-lf-spec =
+    tie.close
+    (tie.spec
+    Inv-loop
+    μ-loop
+    loop-holds
+    shared-slice-read-if1
+    returns
+    add-i
+    loop-less
+    loop-again
+    returns-2)
