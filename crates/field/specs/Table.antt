@@ -31,7 +31,7 @@ pub data Entry : Type 0 where
   a : Columns → Entry
   -- U from a column to the line's end
   u-rest : ℕ → Entry
-  -- X, and texts that end with the line
+  -- X, or a text of what the line reaches of the columns; a text that ends with the line
   x : Columns → Entry
   t-rest : ℕ → Entry
   charge : Columns → Entry

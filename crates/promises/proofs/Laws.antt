@@ -3,3 +3,8 @@ pub mod RealsNamed
 pub mod RealsTable
 pub mod RealsField
 pub mod Reals
+pub mod Format
+pub mod Agreeing
+pub mod Refusing
+pub mod Faults
+pub mod Edges

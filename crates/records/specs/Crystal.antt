@@ -8,7 +8,7 @@ use Rattle.field.specs.Number.{realAt, unsignedFrom, zeroReal}
 use Rattle.field.specs.Table.{Entry}
 use Rattle.field.specs.Text.{textWithin}
 use Rattle.lexitem.specs.Columns.{_⋯_}
-use Rattle.field.specs.Table.Entry.{r, u-rest, t-rest, unwritten}
+use Rattle.field.specs.Table.Entry.{r, x, u-rest, unwritten}
 use Rattle.lexitem.specs.declared.crystal.Cell.{Cell}
 use Rattle.lexitem.specs.declared.crystal.Crystal.{Crystal}
 use Rattle.lexitem.specs.declared.fault.Faults.{Faults}
@@ -48,7 +48,7 @@ zOf true l = unsignedFrom l 66
 zOf false l = 1
 
 abbrev pub crystalTable : Bool → List Entry
-crystalTable z = cellTable ++ t-rest 55 ∷ zEntry z ∷ []
+crystalTable z = cellTable ++ x (55 ⋯ 66) ∷ zEntry z ∷ []
 
 abbrev pub crystalOf : List ℕ → Crystal
 crystalOf l = record { cell = cellOf l; spacegroup = textWithin l (55 ⋯ 66); z = zOf (hasZ l) l }

@@ -1,0 +1,2 @@
+// The rows of a record's listing, put into lent bytes.
+pub mod put;

@@ -1,0 +1,85 @@
+// How a row of a listing is put.
+ghost use mathlib.Core.Path.{_≡_};
+ghost use lib.Ieee.{binary64, toBits};
+ghost use Rattle.listing.specs.Row as specs;
+ghost use Rattle.page.specs.Page.{page, put};
+use lexitem::text::Character;
+use lexitem::text::Field;
+use lexitem::text::view;
+use page::put_byte;
+use page::put_escaped;
+use page::put_hex;
+use page::put_signed;
+use page::put_unsigned;
+use rows::row::Row;
+use rows::row::Value;
+
+// Whether a row is shown.
+fn is_present(value: Value) -> bool
+    ensures { λ r. ⌜ r ≡ specs.present value ⌝ }
+{
+    match value {
+        Value::Unsigned(_) => true,
+        Value::Signed(_) => true,
+        Value::Real(_) => true,
+        Value::Words(_) => true,
+        Value::One(character) => match character {
+            Character::At(_) => true,
+            Character::Unreached => true,
+            Character::Absent => false,
+        },
+        Value::Flag(_) => true,
+        Value::Nothing => false,
+    }
+}
+
+// A double's bits. No reader gives a NaN, whose bits aren't known: one NaN's pattern stands for it.
+fn bits_of(x: f64) -> u64
+    ensures { λ r. ⌜ r ≡ toBits binary64 x ⌝ }
+{
+    if x == x {
+        return f64::to_bits(x);
+    }
+    0x7FF8_0000_0000_0000
+}
+
+// A character that the line doesn't reach shows as one blank.
+fn put_field(out: &mut [u8], at: usize, line: &[u8], field: Field) -> usize
+    ensures { λ r. ⌜ page (now (out .exit)) r ≡ put (page (now (out .entry)) at) (specs.fieldBytes (now (line .entry)) field) ⌝ }
+{
+    put_escaped(out, at, view(line, b" ", field))
+}
+
+fn put_value(out: &mut [u8], at: usize, line: &[u8], value: Value) -> usize
+    ensures { λ r. ⌜ page (now (out .exit)) r ≡ put (page (now (out .entry)) at) (specs.valueBytes (now (line .entry)) value) ⌝ }
+{
+    match value {
+        Value::Unsigned(n) => put_unsigned(out, at, n),
+        Value::Signed(n) => put_signed(out, at, n),
+        Value::Real(x) => put_hex(out, at, bits_of(x)),
+        Value::Words(text) => put_field(out, at, line, Field::Words(text)),
+        Value::One(character) => put_field(out, at, line, Field::One(character)),
+        Value::Flag(flag) => {
+            if flag {
+                return put_byte(out, at, b'1');
+            }
+            put_byte(out, at, b'0')
+        }
+        Value::Nothing => at,
+    }
+}
+
+// A row that isn't shown puts nothing.
+pub fn put_row(out: &mut [u8], at: usize, line: &[u8], row: Row) -> usize
+    ensures { λ r. ⌜ page (now (out .exit)) r ≡ put (page (now (out .entry)) at) (specs.rowBytes (now (line .entry)) row) ⌝ }
+{
+    let value = row.1;
+    if is_present(value) {
+        let column = put_byte(out, at, b'f');
+        let equals = put_unsigned(out, column, row.0 as u64);
+        let start = put_byte(out, equals, b'=');
+        let end = put_value(out, start, line, value);
+        return put_byte(out, end, b'\n');
+    }
+    at
+}

@@ -1,0 +1,122 @@
+-- "P1 to P12 are one list of cases with a single theorem about it": every claim of every case is found, each by computing the answer.
+--     edges-found       P1 to P12
+--     defaults-found    a case for each default
+-- One line of a proof is one case, in the list's order, so that a failure names its case. Assumes nothing.
+use mathlib.Core.Path.{refl}
+use lib.Ieee.{div, neg, ofInt, ofBits}
+use Rattle.number.specs.Trim.{white, leading, kept, endTrimmed, trimmed, spanOf}
+use Rattle.number.specs.Whole.{digit, digits, valueFrom, begins, afterPlus, afterSign, digitsOf, unsignedOf, signedDigits, signedOf}
+use Rattle.number.specs.Decimal.{beforePoint, behindPoint, withoutPoint, plainOf, decimalOf}
+use Rattle.number.specs.Double.{doubleOf}
+use Rattle.number.specs.Real.{realOf, tenThousandth, tenThousandthsOf}
+use Rattle.lexitem.specs.Columns.{partOf, reachedOf, restOf}
+use Rattle.lexitem.specs.Faults.{noFaults, noted, listed}
+use Rattle.field.specs.Number.{numberFaults, unsignedAt, signedAt, realAt, factorAt, unsignedFrom, unsignedFromFaults}
+use Rattle.field.specs.Text.{textAt, textFaults, textWithin, textFrom, endTextFrom, characterAt, optionalAt, characterFaults}
+use Rattle.field.specs.Charge.{bothBlank, charged, chargeOf, chargeFaultsOf, chargeAt, chargeFaults, isKnown, knownFaults}
+use Rattle.records.specs.Seqadv.{blanks, hasTarget}
+use Rattle.records.specs.Seqres.{blankTriple, triplesFrom}
+use Rattle.kind.specs.Kind.{keptOf, kindOf}
+use Rattle.lexer.specs.Item.{faultsOf}
+use Rattle.lexer.specs.Refusals.{plain}
+use Rattle.lexer.specs.Lexed.{lexed}
+use Rattle.promises.specs.Edges.{CasesFound, edges}
+use Rattle.promises.specs.Defaults.{defaults}
+
+-- all that an answer computes through, from the numbers up
+unfoldable opened : Unit {0}
+unfolding
+    white leading kept endTrimmed trimmed spanOf digit digits valueFrom begins afterPlus afterSign digitsOf unsignedOf signedDigits signedOf
+    beforePoint behindPoint withoutPoint plainOf decimalOf doubleOf realOf tenThousandth tenThousandthsOf div neg ofInt ofBits
+    partOf reachedOf restOf noFaults noted listed
+    numberFaults unsignedAt signedAt realAt factorAt unsignedFrom unsignedFromFaults
+    textAt textFaults textWithin textFrom endTextFrom characterAt optionalAt characterFaults
+    bothBlank charged chargeOf chargeFaultsOf chargeAt chargeFaults isKnown knownFaults
+    blanks hasTarget blankTriple triplesFrom keptOf kindOf faultsOf plain lexed
+opened = tt
+
+infixr 5 _&_
+abbrev _&_ : {A B : Type 0} → A → B → A × B
+a & b = (a, b)
+
+pub edges-found : CasesFound edges
+unfolding opened
+edges-found =
+    -- P1
+    (refl & tt)
+    -- P2
+    & (refl & tt)
+    & (refl & tt)
+    -- P3
+    & (refl & tt)
+    & (refl & tt)
+    -- P4
+    & (refl & tt)
+    -- P5
+    & ((_, refl, refl) & refl & tt)
+    & ((_, refl, refl) & refl & tt)
+    -- P6
+    & ((_, refl, refl) & refl & tt)
+    & ((_, refl, refl) & refl & tt)
+    & ((_, refl, refl) & refl & tt)
+    -- P7
+    & ((_, refl, refl) & (_, refl, refl) & (_, refl, refl) & (_, refl, refl) & refl & tt)
+    -- P8
+    & ((_, refl, refl) & refl & tt)
+    & ((_, refl, refl) & refl & tt)
+    & ((_, refl, refl) & refl & tt)
+    -- P9
+    & (refl & tt)
+    & ((_, refl, refl) & refl & tt)
+    & ((_, refl, refl) & refl & tt)
+    -- P10
+    & ((_, refl, refl) & refl & tt)
+    & (refl & tt)
+    & ((_, refl, refl) & refl & tt)
+    -- P11
+    & (refl & tt)
+    & (refl & tt)
+    -- P12
+    & ((_, refl, refl) & refl & tt)
+    & tt
+
+pub defaults-found : CasesFound defaults
+unfolding opened
+defaults-found =
+    -- ATOM, HETATM, ANISOU
+    (refl & refl & tt)
+    & (refl & tt)
+    & ((_, refl, refl) & tt)
+    & (refl & refl & tt)
+    & (refl & tt)
+    -- CRYST1
+    & (refl & refl & tt)
+    -- SCALE, ORIGX, MTRIX
+    & (refl & refl & tt)
+    & (refl & refl & tt)
+    & (refl & refl & tt)
+    & ((_, refl, refl) & tt)
+    -- MASTER, SEQRES
+    & (refl & refl & tt)
+    & (refl & refl & tt)
+    -- DBREF, DBREF1, DBREF2
+    & (refl & refl & tt)
+    & (refl & refl & tt)
+    & (refl & refl & tt)
+    -- SEQADV, MODRES
+    & (refl & refl & tt)
+    & (refl & refl & tt)
+    & (refl & refl & tt)
+    -- SSBOND
+    & (refl & refl & tt)
+    & (refl & refl & tt)
+    -- REMARK, HEADER
+    & (refl & refl & tt)
+    & (refl & refl & tt)
+    & (refl & refl & tt)
+    & (refl & refl & tt)
+    -- trim
+    & ((_, refl, refl) & refl & tt)
+    & ((_, refl, refl) & refl & tt)
+    & ((_, refl, refl) & refl & tt)
+    & tt

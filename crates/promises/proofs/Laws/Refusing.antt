@@ -1,0 +1,196 @@
+-- "Given exactly when": each refusal of 01's table is given where its rule holds and no earlier one does, and a line is accepted where none does.
+--     refused-when          a line is refused with r exactly when the first rule that holds gives r
+--     accepted-exactly      a line is accepted with x exactly when no rule holds, and x is the record of its kind
+--     refused-once          so the rules give a line one refusal at most
+--     refusal-empty         a refusal comes with an empty list of faults
+--     refusal-unlisted      which lists none
+--     line-through          the line's number is handed through
+--     silent-few            where the 17th fault's rule is silent there are at most sixteen faults
+--     atoms-kept            under atoms only a line is of a kind that atoms only keeps
+--     atoms-skip            and of no other kind
+--     atoms-silent          so the rules of 4, 5 and 6 are silent
+--     atoms-refused-when    and a line is refused by the other four
+-- Assumes nothing.
+use Prim.Native.Nat.{ℕ, _≤_}
+use mathlib.Core.Path.{_≡_, refl, sym, ap, _∙_}
+use mathlib.Core.Logic.{_≢_, _↔_, _⊎_, inl, inr, ⊎-elim, Iff·trans}
+use mathlib.Core.Bool.{Bool, true, false, cond, not, _&&_}
+use mathlib.Core.List.{List, [], _∷_}
+use native.Mathlib.Omega.{arith}
+use borrow.Author.Tests.{ltb-false}
+use lib.ListN.{length, take}
+use lib.Dec.{ltb}
+use Rattle.number.proofs.Laws.Choice.{clash}
+use Rattle.lexitem.specs.Faults.{noFaults, listed}
+use Rattle.lexitem.specs.declared.answer.Outcome.the-variants.{Accepted, Refused}
+use Rattle.lexitem.specs.declared.answer.Refusal.{Refusal}
+use Rattle.lexitem.specs.declared.item.LexItem.{LexItem}
+use Rattle.kind.specs.Kind.{bytes, same, kindBy, names, shortNames, keptByAtoms, keptOf, kindOf}
+use Rattle.kind.specs.declared.Kind.{Kind}
+use Rattle.kind.specs.declared.Kind.the-variants.{Empty, Header, Remark, Ter, End}
+use Rattle.lexer.specs.Item.{itemOf}
+use Rattle.lexer.specs.Lexed.{refused, accepted, firstOf, lexed}
+use Rattle.lexer.specs.Refusals.{Input, Row, kind, faults, rows}
+use Rattle.promises.specs.Refusing.{Rule, Least, Silent, First, Passed, rules, tableRule, lengthRule, byteRule, headerRule, remarkRule, leastRule, faultRule}
+use Rattle.promises.proofs.Laws.Agreeing.{AllAgree, fault-row, rules-agree}
+
+-- ---- the first row that holds is the first rule that does
+not-both : {x : LexItem} {r : Refusal} → Refused r ≡ Accepted x → ⊥
+not-both e = let z : _≡_ {A = ℕ} 0 1 = cc in omega arith
+
+module _ (i : Input) where
+  first-refused : (xs : List Row) (rs : List Rule) → AllAgree xs rs → (r : Refusal)
+      → (firstOf i xs (accepted i) .outcome ≡ Refused r) ↔ First rs r
+  first-refused [] [] a r = (λ e. absurd (not-both (sym e)), λ h. absurd h)
+  first-refused [] (rule ∷ rs) a r = absurd a
+  first-refused (x ∷ xs) [] a r = absurd a
+  first-refused (x ∷ xs) (rule ∷ rs) a r = go (x .holds) refl (first-refused xs rs (a .1) r)
+    where
+      go : (b : Bool) → x .holds ≡ b → ((firstOf i xs (accepted i) .outcome ≡ Refused r) ↔ First rs r)
+          → (cond b (refused i (x .gives)) (firstOf i xs (accepted i)) .outcome ≡ Refused r) ↔ (rule r ⊎ (Silent rule × First rs r))
+      go true e ih = (
+        λ h. let g : x .gives ≡ r = cc in inl (rw g at (a .0 .0 e)),
+        ⊎-elim (λ p. ap Refused (sym (a .0 .1 r p .1))) (λ p. absurd (p .0 (x .gives) (a .0 .0 e))),
+      )
+      go false e ih = (
+        λ h. inr (λ s p. clash (a .0 .1 s p .0) e, ih .0 h),
+        ⊎-elim (λ p. absurd (clash (a .0 .1 r p .0) e)) (λ p. ih .1 (p .1)),
+      )
+
+  first-accepted : (xs : List Row) (rs : List Rule) → AllAgree xs rs → (y : LexItem)
+      → (firstOf i xs (accepted i) .outcome ≡ Accepted y) ↔ (Passed rs × (y ≡ itemOf (kind i) (i .line)))
+  first-accepted [] [] a y = (λ e. (tt, cc), λ h. ap Accepted (sym (h .1)))
+  first-accepted [] (rule ∷ rs) a y = absurd a
+  first-accepted (x ∷ xs) [] a y = absurd a
+  first-accepted (x ∷ xs) (rule ∷ rs) a y = go (x .holds) refl (first-accepted xs rs (a .1) y)
+    where
+      go : (b : Bool) → x .holds ≡ b
+          → ((firstOf i xs (accepted i) .outcome ≡ Accepted y) ↔ (Passed rs × (y ≡ itemOf (kind i) (i .line))))
+          → (cond b (refused i (x .gives)) (firstOf i xs (accepted i)) .outcome ≡ Accepted y)
+          ↔ ((Silent rule × Passed rs) × (y ≡ itemOf (kind i) (i .line)))
+      go true e ih = (λ h. absurd (not-both h), λ h. absurd (h .0 .0 (x .gives) (a .0 .0 e)))
+      go false e ih = (
+        λ h. let p = ih .0 h in ((λ s q. clash (a .0 .1 s q .0) e, p .0), p .1),
+        λ h. ih .1 (h .0 .1, h .1),
+      )
+
+  first-faults : (xs : List Row) (r : Refusal) → firstOf i xs (accepted i) .outcome ≡ Refused r → firstOf i xs (accepted i) .faults ≡ noFaults
+  first-faults [] r e = cc
+  first-faults (x ∷ xs) r e = go (x .holds) (first-faults xs r) e
+    where
+      go : (b : Bool) → (firstOf i xs (accepted i) .outcome ≡ Refused r → firstOf i xs (accepted i) .faults ≡ noFaults)
+          → cond b (refused i (x .gives)) (firstOf i xs (accepted i)) .outcome ≡ Refused r
+          → cond b (refused i (x .gives)) (firstOf i xs (accepted i)) .faults ≡ noFaults
+      go true ih e = refl
+      go false ih e = ih e
+
+  first-line : (xs : List Row) → firstOf i xs (accepted i) .line ≡ i .number
+  first-line [] = refl
+  first-line (x ∷ xs) = go (x .holds) (first-line xs)
+    where
+      go : (b : Bool) → firstOf i xs (accepted i) .line ≡ i .number
+          → cond b (refused i (x .gives)) (firstOf i xs (accepted i)) .line ≡ i .number
+      go true e = refl
+      go false e = e
+
+-- a rule that is silent can be left out, in front of others or behind one
+past-silent : (rule : Rule) (rest : List Rule) (r : Refusal) → Silent rule → First (rule ∷ rest) r ↔ First rest r
+past-silent rule rest r s = (⊎-elim (λ h. absurd (s r h)) (λ p. p .1), λ h. inr (s, h))
+
+under-rule : (rule : Rule) (s t : List Rule) (r : Refusal) → First s r ↔ First t r → First (rule ∷ s) r ↔ First (rule ∷ t) r
+under-rule rule s t r e = (⊎-elim (λ h. inl h) (λ p. inr (p .0, e .0 (p .1))), ⊎-elim (λ h. inl h) (λ p. inr (p .0, e .1 (p .1))))
+
+-- ---- demand 1
+module _ (i : Input) where
+  pub refused-when : (r : Refusal) → (lexed i .outcome ≡ Refused r) ↔ First (rules i) r
+  unfolding lexed
+  refused-when r = first-refused i (rows i) (rules i) (rules-agree i) r
+
+  pub accepted-exactly : (x : LexItem) → (lexed i .outcome ≡ Accepted x) ↔ (Passed (rules i) × (x ≡ itemOf (kind i) (i .line)))
+  unfolding lexed
+  accepted-exactly x = first-accepted i (rows i) (rules i) (rules-agree i) x
+
+  pub refused-once : (r s : Refusal) → First (rules i) r → First (rules i) s → r ≡ s
+  refused-once r s p q =
+      let e = refused-when r .1 p in
+      let f = refused-when s .1 q in
+      cc
+
+  pub refusal-empty : (r : Refusal) → lexed i .outcome ≡ Refused r → lexed i .faults ≡ noFaults
+  unfolding lexed
+  refusal-empty r e = first-faults i (rows i) r e
+
+  pub refusal-unlisted : (r : Refusal) → lexed i .outcome ≡ Refused r → listed (lexed i .faults) ≡ []
+  unfolding listed noFaults
+  refusal-unlisted r e = rw (refusal-empty r e) refl
+
+  pub line-through : lexed i .line ≡ i .number
+  unfolding lexed
+  line-through = first-line i (rows i)
+
+  -- where row 7 is silent the list holds every fault
+  pub silent-few : Silent (faultRule i) → length (faults i) ≤ 16
+  silent-few s = go (ltb 16 (length (faults i))) refl
+    where
+      go : (b : Bool) → ltb 16 (length (faults i)) ≡ b → length (faults i) ≤ 16
+      go true e = absurd (s _ (fault-row i .0 e))
+      go false e = ltb-false 16 (length (faults i)) e
+
+-- ---- atoms only
+-- a choice of two kinds that are kept
+either-kept : (b : Bool) (j k : Kind) → keptByAtoms j ≡ true → keptByAtoms k ≡ true → keptByAtoms (cond b j k) ≡ true
+either-kept true j k p q = p
+either-kept false j k p q = q
+
+short-kept : (t : List ℕ) → keptByAtoms (kindBy t shortNames) ≡ true
+short-kept t =
+    either-kept (same t (bytes "TER")) Ter (cond (same t (bytes "END")) End Empty) refl
+    (either-kept (same t (bytes "END")) End Empty refl refl)
+
+kept-only : (k : Kind) → keptByAtoms (keptOf true k) ≡ true
+unfolding keptOf
+kept-only k = go (keptByAtoms k) refl
+  where
+    go : (b : Bool) → keptByAtoms k ≡ b → keptByAtoms (cond (true && not b) Empty k) ≡ true
+    go true e = e
+    go false e = refl
+
+least-skipped : {k : Kind} {n : ℕ} → Least k n → keptByAtoms k ≡ false
+least-skipped Least.cryst1 = refl
+least-skipped Least.modres = refl
+least-skipped Least.seqadv = refl
+least-skipped Least.ssbond = refl
+
+module _ (i : Input) (only : i .options .atoms ≡ true) where
+  pub atoms-kept : keptByAtoms (kind i) ≡ true
+  unfolding kindOf
+  atoms-kept =
+      let l = i .line in
+      let long = keptOf true (kindBy (take 6 l) names) in
+      let short = kindBy (take 3 l) shortNames in
+      rw only
+      (either-kept (ltb 6 (length l)) long (cond (ltb 2 (length l)) short Empty) (kept-only (kindBy (take 6 l) names))
+      (either-kept (ltb 2 (length l)) short Empty (short-kept (take 3 l)) refl))
+
+  pub atoms-skip : (k : Kind) → keptByAtoms k ≡ false → kind i ≢ k
+  atoms-skip k e h = clash atoms-kept (ap keptByAtoms h ∙ e)
+
+  pub atoms-silent : Silent (headerRule i) × Silent (remarkRule i) × Silent (leastRule i)
+  atoms-silent = (
+    λ r h. atoms-skip Header refl (h .0),
+    λ r h. atoms-skip Remark refl (h .0),
+    λ r h. atoms-skip (kind i) (least-skipped (h .1)) refl,
+  )
+
+  pub atoms-refused-when : (r : Refusal) → (lexed i .outcome ≡ Refused r) ↔ First (tableRule i ∷ lengthRule i ∷ byteRule i ∷ faultRule i ∷ []) r
+  atoms-refused-when r =
+      let last = faultRule i ∷ [] in
+      let own = leastRule i ∷ last in
+      let three = byteRule i ∷ headerRule i ∷ remarkRule i ∷ own in
+      let none = atoms-silent in
+      Iff·trans (refused-when i r)
+      (under-rule (tableRule i) (lengthRule i ∷ three) (lengthRule i ∷ byteRule i ∷ last) r
+      (under-rule (lengthRule i) three (byteRule i ∷ last) r
+      (under-rule (byteRule i) (headerRule i ∷ remarkRule i ∷ own) last r
+      (Iff·trans (past-silent (headerRule i) (remarkRule i ∷ own) r (none .0))
+      (Iff·trans (past-silent (remarkRule i) own r (none .1)) (past-silent (leastRule i) last r (none .2)))))))

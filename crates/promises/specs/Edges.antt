@@ -1,0 +1,149 @@
+-- "P1 to P12 are one list of cases with a single theorem about it": a case is a line with claims of what is answered, and each claim is found in
+-- the answer where it looks. A real is claimed by its bits, as a listing shows it.
+use Prim.Native.Nat.{ℕ, _-_}
+use Prim.Native.String.{String}
+use mathlib.Core.Path.{_≡_}
+use mathlib.Core.Bool.{true, false}
+use mathlib.Core.List.{List, [], _∷_, _++_, map}
+use lib.ListN.{length, replicate}
+use lib.IntN.{pos, negℤ}
+use lib.Ieee.{Float, binary64, ofBits}
+use Rattle.kind.specs.Kind.{bytes}
+use Rattle.lexitem.specs.Faults.{numberOf, listed}
+use Rattle.lexitem.specs.declared.answer.Answer.{Answer}
+use Rattle.lexitem.specs.declared.answer.Options.{Options}
+use Rattle.lexitem.specs.declared.answer.Outcome.the-variants.{Accepted, Refused}
+use Rattle.lexitem.specs.declared.fault.Fault.{Fault}
+use Rattle.lexitem.specs.declared.item.LexItem.{LexItem}
+use Rattle.lexitem.specs.declared.item.LexItem.the-variants as item
+use Rattle.lexer.specs.Lexed.{lexed}
+use Rattle.lexer.specs.Steps.{refusal}
+
+-- what is claimed of an answer
+pub data Claim : Type 1 where
+  -- the record
+  is : LexItem → Claim
+  -- a field's value, in a record of a kind
+  field : {A B : Type 0} → (A → LexItem) → (A → B) → B → Claim
+  -- the faults, each by its number, place and length, or how many there are
+  faults : List (ℕ × ℕ × ℕ) → Claim
+  count : ℕ → Claim
+  -- a refusal by its number, place and length
+  refused : ℕ → ℕ → ℕ → Claim
+
+-- a fault's number, place and length
+abbrev pub toldBy : Fault → ℕ × ℕ × ℕ
+toldBy f = (numberOf (f .kind), f .place, f .length)
+
+-- the answer has at a claim's place what the claim says
+abbrev pub Found : Answer → Claim → Type 0
+Found a (is x) = a .outcome ≡ Accepted x
+Found a (field {A} make get value) = (x : A) × (a .outcome ≡ Accepted (make x)) × (get x ≡ value)
+Found a (faults fs) = map toldBy (listed (a .faults)) ≡ fs
+Found a (count n) = a .faults .count ≡ n
+Found a (refused number place length) = a .outcome ≡ Refused (refusal number place length)
+
+abbrev pub ClaimsFound : Answer → List Claim → Type 0
+ClaimsFound a [] = Unit {0}
+ClaimsFound a (claim ∷ rest) = Found a claim × ClaimsFound a rest
+
+-- a line with its options and the lent remark table, and what is claimed of the answer
+pub record Case : Type 1 where
+  pub line : List ℕ
+  pub options : Options
+  pub remarks : List ℕ
+  pub claims : List Claim
+
+abbrev pub answerTo : Case → Answer
+answerTo c = lexed (record { line = c .line; number = 0; options = c .options; remarks = c .remarks })
+
+-- every claim of every case is found
+abbrev pub CasesFound : List Case → Type 0
+CasesFound [] = Unit {0}
+CasesFound (c ∷ rest) = ClaimsFound (answerTo c) (c .claims) × CasesFound rest
+
+-- all kinds, not loose, every remark number valid
+abbrev pub on : List ℕ → List Claim → Case
+on line claims =
+    record { line = line; options = record { atoms = false; loose = false }; remarks = replicate 1000 1; claims = claims }
+
+-- the same, but loose
+abbrev pub onLoose : List ℕ → List Claim → Case
+onLoose line claims =
+    record { line = line; options = record { atoms = false; loose = true }; remarks = replicate 1000 1; claims = claims }
+
+-- the same, but no remark number valid
+abbrev pub onUnknown : List ℕ → List Claim → Case
+onUnknown line claims =
+    record { line = line; options = record { atoms = false; loose = false }; remarks = replicate 1000 0; claims = claims }
+
+-- a line filled with blanks up to a length
+abbrev pub filled : ℕ → List ℕ → List ℕ
+filled n line = line ++ replicate (n - length line) 32
+
+-- the double that has these bits
+abbrev pub real : ℕ → Float
+real n = ofBits binary64 n
+
+-- ---- the lines
+-- 78 columns of an ATOM, its charge to follow
+abbrev charged : String → List ℕ
+charged s = bytes "ATOM      1  N   ALA A   1      11.104   6.134  -6.504  1.00  0.00           N" ++ bytes s
+
+-- the 54 columns of a CRYST1's cell, and its space group behind them
+abbrev cell : List ℕ
+cell = bytes "CRYST1   52.000   58.600   61.900  90.00  90.00  90.00"
+
+abbrev crystal : List ℕ
+crystal = cell ++ bytes " P 21 21 21"
+
+-- a REMARK whose text of n bytes has five blanks behind it
+abbrev remark : ℕ → List ℕ
+remark n = bytes "REMARK   2 " ++ replicate n 88 ++ replicate 5 32
+
+abbrev pub edges : List Case
+edges =
+    -- P1 empty is EMPTY
+    on [] (is item.Empty ∷ [])
+    -- P2 `TE` EMPTY, `TER` TER
+    ∷ on (bytes "TE") (is item.Empty ∷ [])
+    ∷ on (bytes "TER") (is item.Ter ∷ [])
+    -- P3 `ENDMDL` alone is END; with one blank more, ENDMDL
+    ∷ on (bytes "ENDMDL") (is item.End ∷ [])
+    ∷ on (bytes "ENDMDL ") (is item.EndModel ∷ [])
+    -- P4 `MODEL ` is EMPTY
+    ∷ on (bytes "MODEL ") (is item.Empty ∷ [])
+    -- P5 MODEL 18446744073709551615 is read; ..616 gives 0 and fault 2
+    ∷ on (bytes "MODEL 18446744073709551615") (field item.Model (λ m. m .number) 18446744073709551615 ∷ faults [] ∷ [])
+    ∷ on (bytes "MODEL 18446744073709551616") (field item.Model (λ m. m .number) 0 ∷ faults ((2, 6, 20) ∷ []) ∷ [])
+    -- P6 `+5` is U 5; `-0` is fault 2 as U and 0 as I
+    ∷ on (bytes "MODEL +5") (field item.Model (λ m. m .number) 5 ∷ faults [] ∷ [])
+    ∷ on (bytes "MODEL -0") (field item.Model (λ m. m .number) 0 ∷ faults ((2, 6, 2) ∷ []) ∷ [])
+    ∷ on (bytes "MODRES 1ABC MSE A   -0  MET  SELENOMETHIONINE") (field item.Modres (λ m. m .number) (pos 0) ∷ faults [] ∷ [])
+    -- P7 R `5.` and `.5` are read, `.` isn't
+    ∷ on (bytes "SCALE1            5.        .5         .             -0")
+    (field item.Scale (λ s. s .values .a) (real 0x4014000000000000)
+    ∷ field item.Scale (λ s. s .values .b) (real 0x3FE0000000000000)
+    ∷ field item.Scale (λ s. s .values .c) (real 0)
+    ∷ field item.Scale (λ s. s .values .d) (real 0x8000000000000000)
+    ∷ faults ((2, 30, 10) ∷ [])
+    ∷ [])
+    -- P8 charge `2-` is -2; blank then `2` is fault 3; `2` then blank is fault 4
+    ∷ on (charged "2-") (field item.Atom (λ a. a .basics .charge) (negℤ (pos 2)) ∷ faults [] ∷ [])
+    ∷ on (charged " 2") (field item.Atom (λ a. a .basics .charge) (pos 0) ∷ faults ((3, 78, 1) ∷ []) ∷ [])
+    ∷ on (charged "2 ") (field item.Atom (λ a. a .basics .charge) (pos 0) ∷ faults ((4, 79, 1) ∷ []) ∷ [])
+    -- P9 CRYST1 of 54 is refusal 6; of 66, Z is 1; of 67 with a blank there, 0 and a fault
+    ∷ on cell (refused 6 54 1 ∷ [])
+    ∷ on (filled 66 crystal) (field item.Crystal (λ c. c .z) 1 ∷ faults [] ∷ [])
+    ∷ on (filled 67 crystal) (field item.Crystal (λ c. c .z) 0 ∷ faults ((2, 66, 1) ∷ []) ∷ [])
+    -- P10 REMARK trimmed to 79 is read, to 80 is refusal 5 unless loose
+    ∷ on (remark 68) (field item.Remark (λ r. r .text) (record { place = 11; length = 68 }) ∷ faults [] ∷ [])
+    ∷ on (remark 69) (refused 5 80 5 ∷ [])
+    ∷ onLoose (remark 69) (field item.Remark (λ r. r .text) (record { place = 11; length = 69 }) ∷ faults [] ∷ [])
+    -- P11 ATOM of 7 bytes has 14 faults, ANISOU 15
+    ∷ on (bytes "ATOM   ") (count 14 ∷ [])
+    ∷ on (bytes "ANISOU ") (count 15 ∷ [])
+    -- P12 DBREF1 with `1234` in 20..24 gives 234
+    ∷ on (filled 67 (bytes "DBREF1 2J83 A   61  1234  UNIMES               UPI000148A153"))
+    (field item.Dbref1 (λ d. d .segment .end) (pos 234) ∷ faults [] ∷ [])
+    ∷ []

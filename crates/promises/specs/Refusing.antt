@@ -1,0 +1,91 @@
+-- "Refusals by number, in order of testing: given exactly when, place, length." The table of 01 once more, in words of numbers: a rule says which
+-- refusals it gives, and a line's refusal is what the first rule that holds gives. Nothing here is a test.
+use Prim.Native.Nat.{ℕ, _-_, _<_, _≤_}
+use mathlib.Core.Path.{_≡_}
+use mathlib.Core.Logic.{_≢_, _⊎_}
+use mathlib.Core.Bool.{false}
+use mathlib.Core.List.{List, [], _∷_, _++_}
+use lib.ListN.{length, getD}
+use Rattle.number.specs.Trim.{endTrimmed}
+use Rattle.lexitem.specs.declared.answer.Refusal.{Refusal}
+use Rattle.lexitem.specs.declared.fault.Fault.{Fault}
+use Rattle.kind.specs.declared.Kind.{Kind}
+use Rattle.kind.specs.declared.Kind.the-variants.{Header, Remark, Cryst1, Seqadv, Modres, Ssbond}
+use Rattle.lexer.specs.Refusals.{Input, kind, faults}
+use Rattle.lexer.specs.Steps.{refusal}
+
+-- a rule, as which refusals it gives
+abbrev pub Rule : Type 1
+Rule = Refusal → Type 0
+
+-- "1: remark table isn't 1,000 bytes; 0, 0"
+abbrev pub tableRule : Input → Rule
+tableRule i r = (length (i .remarks) ≢ 1000) × (r ≡ refusal 1 0 0)
+
+-- "2: line over 1,024 bytes; 1024, excess"
+abbrev pub lengthRule : Input → Rule
+lengthRule i r = (1024 < length (i .line)) × (r ≡ refusal 2 1024 (length (i .line) - 1024))
+
+-- a byte of 128 or more stands at the place, and none before it
+pub record FirstHigh (l : List ℕ) (place : ℕ) : Type 0 where
+  pub reached : place < length l
+  pub high : 128 ≤ getD l place 0
+  pub before : (at : ℕ) → at < place → getD l at 0 < 128
+
+-- "3: a byte of 128 or more; first such, 1"
+abbrev pub byteRule : Input → Rule
+byteRule i r = (place : ℕ) × FirstHigh (i .line) place × (r ≡ refusal 3 place 1)
+
+-- "4: HEADER under 66; 11, len-11, or 0 if len is under 11". Subtraction stops at 0
+abbrev pub headerRule : Input → Rule
+headerRule i r = (kind i ≡ Header) × (length (i .line) < 66) × (r ≡ refusal 4 11 (length (i .line) - 11))
+
+-- "5: REMARK over 11 long whose end-trimmed length is 80 or more, not loose; 80, len-80"
+abbrev pub remarkRule : Input → Rule
+remarkRule i r =
+    (kind i ≡ Remark)
+    × (11 < length (i .line))
+    × (80 ≤ length (endTrimmed (i .line)))
+    × (i .options .loose ≡ false)
+    × (r ≡ refusal 5 80 (length (i .line) - 80))
+
+-- the least length of a kind that has one
+pub data Least : Kind → ℕ → Type 0 where
+  cryst1 : Least Cryst1 55
+  modres : Least Modres 29
+  seqadv : Least Seqadv 49
+  ssbond : Least Ssbond 36
+
+-- "6: CRYST1 under 55, MODRES under 29, SEQADV under 49, SSBOND under 36; len, missing bytes"
+abbrev pub leastRule : Input → Rule
+leastRule i r =
+    (least : ℕ) × Least (kind i) least × (length (i .line) < least) × (r ≡ refusal 6 (length (i .line)) (least - length (i .line)))
+
+-- a fault that sixteen stand before
+pub record Seventeenth (fs : List Fault) (f : Fault) : Type 0 where
+  pub before : List Fault
+  pub behind : List Fault
+  pub sixteen : length before ≡ 16
+  pub whole : fs ≡ before ++ f ∷ behind
+
+-- "7: a 17th fault would be noted; that fault's"
+abbrev pub faultRule : Input → Rule
+faultRule i r = (f : Fault) × Seventeenth (faults i) f × (r ≡ refusal 7 (f .place) (f .length))
+
+-- in order of testing
+abbrev pub rules : Input → List Rule
+rules i = tableRule i ∷ lengthRule i ∷ byteRule i ∷ headerRule i ∷ remarkRule i ∷ leastRule i ∷ faultRule i ∷ []
+
+-- the rule doesn't hold
+abbrev pub Silent : Rule → Type 0
+Silent rule = (r : Refusal) → rule r → ⊥
+
+-- the first rule that holds gives r
+abbrev pub First : List Rule → Refusal → Type 0
+First [] r = ⊥
+First (rule ∷ rest) r = rule r ⊎ (Silent rule × First rest r)
+
+-- no rule holds
+abbrev pub Passed : List Rule → Type 0
+Passed [] = Unit {0}
+Passed (rule ∷ rest) = Silent rule × Passed rest

@@ -1,0 +1,85 @@
+// The rows of SCALEn, ORIGXn and MTRIXn.
+ghost use mathlib.Core.Path.{_≡_};
+ghost use Rattle.rows.specs.Fields.{rowsOf, scaleFields, origxFields, mtrixFields};
+use crate::row::Row;
+use crate::row::Rows;
+use crate::row::Value;
+use lexitem::transformation::MtriX;
+use lexitem::transformation::OrigX;
+use lexitem::transformation::Row as Transformation;
+use lexitem::transformation::Scale;
+
+pub fn scale_rows(scale: Scale) -> Rows
+    ensures { λ r. ⌜ r ≡ rowsOf (scaleFields scale) ⌝ }
+{
+    let values = scale.values;
+    let list = [
+        Row(Transformation::A.start, Value::Real(values.a)),
+        Row(Transformation::B.start, Value::Real(values.b)),
+        Row(Transformation::C.start, Value::Real(values.c)),
+        Row(Transformation::D.start, Value::Real(values.d)),
+        Row::NONE,
+        Row::NONE,
+        Row::NONE,
+        Row::NONE,
+        Row::NONE,
+        Row::NONE,
+        Row::NONE,
+        Row::NONE,
+        Row::NONE,
+        Row::NONE,
+        Row::NONE,
+        Row::NONE,
+    ];
+    Rows { list }
+}
+
+pub fn origx_rows(origx: OrigX) -> Rows
+    ensures { λ r. ⌜ r ≡ rowsOf (origxFields origx) ⌝ }
+{
+    let values = origx.values;
+    let list = [
+        Row(Transformation::A.start, Value::Real(values.a)),
+        Row(Transformation::B.start, Value::Real(values.b)),
+        Row(Transformation::C.start, Value::Real(values.c)),
+        Row(Transformation::D.start, Value::Real(values.d)),
+        Row::NONE,
+        Row::NONE,
+        Row::NONE,
+        Row::NONE,
+        Row::NONE,
+        Row::NONE,
+        Row::NONE,
+        Row::NONE,
+        Row::NONE,
+        Row::NONE,
+        Row::NONE,
+        Row::NONE,
+    ];
+    Rows { list }
+}
+
+pub fn mtrix_rows(mtrix: MtriX) -> Rows
+    ensures { λ r. ⌜ r ≡ rowsOf (mtrixFields mtrix) ⌝ }
+{
+    let values = mtrix.values;
+    let list = [
+        Row(MtriX::SERIAL.start, Value::Unsigned(mtrix.serial)),
+        Row(Transformation::A.start, Value::Real(values.a)),
+        Row(Transformation::B.start, Value::Real(values.b)),
+        Row(Transformation::C.start, Value::Real(values.c)),
+        Row(Transformation::D.start, Value::Real(values.d)),
+        Row(MtriX::GIVEN as u16, Value::Flag(mtrix.given)),
+        Row::NONE,
+        Row::NONE,
+        Row::NONE,
+        Row::NONE,
+        Row::NONE,
+        Row::NONE,
+        Row::NONE,
+        Row::NONE,
+        Row::NONE,
+        Row::NONE,
+    ];
+    Rows { list }
+}
