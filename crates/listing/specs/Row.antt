@@ -11,6 +11,7 @@ use Rattle.lexitem.specs.declared.text.Character.the-variants.{At, Unreached, A
 use Rattle.lexitem.specs.declared.text.Field.{Field}
 use Rattle.lexitem.specs.declared.text.Field.the-variants as field
 use Rattle.page.specs.Numerals.{decimal, signedDecimal, hex16, escaped}
+use Rattle.listing.specs.Each.{each}
 use Rattle.rows.specs.declared.row.Row.{Row}
 use Rattle.rows.specs.declared.row.Value.{Value}
 use Rattle.rows.specs.declared.row.Value.the-variants.{Unsigned, Signed, Real, Words, One, Flag, Nothing}
@@ -46,6 +47,5 @@ valueBytes l Nothing = []
 unfoldable pub rowBytes : List ℕ → Row → List ℕ
 rowBytes l r = cond (present (r .1)) (102 ∷ [] ++ decimal (r .0) ++ 61 ∷ [] ++ valueBytes l (r .1) ++ 10 ∷ []) []
 
-unfoldable pub rowsBytes : List ℕ → List Row → List ℕ
-rowsBytes l [] = []
-rowsBytes l (r ∷ t) = rowBytes l r ++ rowsBytes l t
+abbrev pub rowsBytes : List ℕ → List Row → List ℕ
+rowsBytes l rows = each (rowBytes l) rows

@@ -1,2 +1,122 @@
-// The rows of a record's listing, put into lent bytes.
+// `list_line`: a line's listing into lent bytes. One emitter puts it, once on a byte of its own to measure it, and
+// then, if it fits, on the lent bytes. So lent bytes that are too few stay as they are.
+ghost use mathlib.Core.Path.{_≡_};
+ghost use Prim.Native.Nat.{_≤_, _<_, _^_};
+ghost use lib.ListN.{length, take};
+ghost use Rattle.listing.specs.Listed as into;
+ghost use Rattle.listing.specs.Listing as specs;
+ghost use Rattle.page.specs.Page.{page, put};
+ghost use Rattle.rows.specs.Name.{nameOf};
+
+pub mod fault;
 pub mod put;
+
+use crate::fault::put_faults;
+use crate::put::put_rows;
+use lexer::lex_line;
+use lexitem::answer::Options;
+use lexitem::answer::Outcome;
+use lexitem::answer::Refusal;
+use lexitem::fault::Fault;
+use lexitem::item::LexItem;
+use page::put_byte;
+use page::put_bytes;
+use page::put_unsigned;
+use rows::name::name_of;
+use rows::rows::rows_of;
+
+// The first so many bytes of a text.
+fn put_front(out: &mut [u8], at: usize, text: [u8; 6], n: usize) -> usize
+    requires { ⌜ n ≤ 6 ⌝ }
+    ensures { λ r. ⌜ page (now (out .exit)) r ≡ put (page (now (out .entry)) at) (take n text) ⌝ }
+{
+    put_bytes(out, at, &text[..n])
+}
+
+fn put_name(out: &mut [u8], at: usize, item: LexItem) -> usize
+    ensures { λ r. ⌜ page (now (out .exit)) r ≡ put (page (now (out .entry)) at) (nameOf item) ⌝ }
+{
+    let name = name_of(item);
+    let text = name.text;
+    put_front(out, at, text, name.length)
+}
+
+// A label, a number and the end of the row.
+fn put_number(out: &mut [u8], at: usize, label: &[u8], n: u64) -> usize
+    ensures { λ r. ⌜ page (now (out .exit)) r ≡ put (page (now (out .entry)) at) (specs.numberRow (now (label .entry)) n) ⌝ }
+{
+    let number = put_bytes(out, at, label);
+    let end = put_unsigned(out, number, n);
+    put_byte(out, end, b'\n')
+}
+
+// The one emitter.
+fn put_listing(
+    out: &mut [u8],
+    at: usize,
+    line: &[u8],
+    number: usize,
+    item: LexItem,
+    faults: [Fault; 16],
+    count: usize,
+) -> usize
+    requires { ⌜ count ≤ 16 ⌝ }
+    ensures { λ r. ⌜ page (now (out .exit)) r ≡ put (page (now (out .entry)) at) (specs.listingOf number (now (line .entry)) item (take count faults)) ⌝ }
+{
+    let name = put_bytes(out, at, b"record=");
+    let feed = put_name(out, name, item);
+    let label = put_byte(out, feed, b'\n');
+    let fields = put_number(out, label, b"line=", number as u64);
+    let rows = rows_of(item);
+    let list = rows.list;
+    let total = put_rows(out, fields, line, list);
+    let each = put_number(out, total, b"faults=", count as u64);
+    put_faults(out, each, faults, count)
+}
+
+// What listing a line answers: how many bytes it wrote at the front of the lent ones, or why it wrote none.
+pub enum Listed {
+    Written(usize),
+    Refused(Refusal),
+}
+
+// Measures the listing, and writes it if it fits.
+fn fit(
+    line: &[u8],
+    number: usize,
+    item: LexItem,
+    faults: [Fault; 16],
+    count: usize,
+    out: &mut [u8],
+) -> Listed
+    requires { ⌜ (count ≤ 16) × (length (specs.listingOf number (now line) item (take count faults)) < 2 ^ 64) ⌝ }
+    ensures { λ r. ⌜ into.Fitted (now (out .entry)) (specs.listingOf number (now (line .entry)) item (take count faults)) r (now (out .exit)) ⌝ }
+{
+    let mut one = [0u8; 1];
+    let needed = put_listing(&mut one, 0, line, number, item, faults, count);
+    if out.len() < needed {
+        return Listed::Refused(Refusal::new(8, 0, needed));
+    }
+    Listed::Written(put_listing(out, 0, line, number, item, faults, count))
+}
+
+// Lists a line of any bytes into lent bytes of any number. The remark table has 1,000 bytes, byte n nonzero when
+// remark number n is valid.
+pub fn list_line(
+    line: &[u8],
+    number: usize,
+    options: Options,
+    remarks: &[u8],
+    out: &mut [u8],
+) -> Listed
+    ensures { λ r. ⌜ into.ListedInto (now (out .entry)) (record { line = now (line .entry); number = number; options = options; remarks = now (remarks .entry) }) r (now (out .exit)) ⌝ }
+{
+    let answer = lex_line(line, number, options, remarks);
+    let faults = answer.faults;
+    let list = faults.list;
+    let outcome = answer.outcome;
+    match outcome {
+        Outcome::Accepted(item) => fit(line, number, item, list, faults.count, out),
+        Outcome::Refused(refusal) => Listed::Refused(refusal),
+    }
+}

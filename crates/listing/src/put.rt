@@ -1,4 +1,4 @@
-// How a row of a listing is put.
+// How the rows of a listing are put.
 ghost use mathlib.Core.Path.{_≡_};
 ghost use lib.Ieee.{binary64, toBits};
 ghost use Rattle.listing.specs.Row as specs;
@@ -70,7 +70,7 @@ fn put_value(out: &mut [u8], at: usize, line: &[u8], value: Value) -> usize
 }
 
 // A row that isn't shown puts nothing.
-pub fn put_row(out: &mut [u8], at: usize, line: &[u8], row: Row) -> usize
+fn put_row(out: &mut [u8], at: usize, line: &[u8], row: Row) -> usize
     ensures { λ r. ⌜ page (now (out .exit)) r ≡ put (page (now (out .entry)) at) (specs.rowBytes (now (line .entry)) row) ⌝ }
 {
     let value = row.1;
@@ -82,4 +82,16 @@ pub fn put_row(out: &mut [u8], at: usize, line: &[u8], row: Row) -> usize
         return put_byte(out, end, b'\n');
     }
     at
+}
+
+pub fn put_rows(out: &mut [u8], at: usize, line: &[u8], rows: [Row; 16]) -> usize
+    ensures { λ r. ⌜ page (now (out .exit)) r ≡ put (page (now (out .entry)) at) (specs.rowsBytes (now (line .entry)) rows) ⌝ }
+{
+    let mut next = at;
+    let mut i = 0;
+    while i < 16 {
+        next = put_row(out, next, line, rows[i]);
+        i += 1;
+    }
+    next
 }

@@ -1,38 +1,52 @@
--- Laws of the bytes of rows.
---     rows-next, rows-done     a loop's turn, and its end
---     rows-padded              rows that show nothing add none
+-- Rows that show nothing add no bytes, and no record has more than sixteen rows: so its sixteen show its fields.
+--     fields-padded     sixteen rows show what the fields show
 -- Assumes nothing.
-use Prim.Native.Nat.{ℕ, suc, _+_, _≤_, _<_}
+use Prim.Native.Nat.{ℕ, suc, _≤_}
 use mathlib.Core.Path.{_≡_, refl, ap}
 use mathlib.Core.List.{List, [], _∷_, _++_}
-use native.Mathlib.Numerals.{add-one}
 use native.Mathlib.Omega.{arith}
-use lib.ListN.{length, drop, getD, drop-of-length-le}
-use lib.Seq.{drop-cons}
-use Rattle.page.specs.Page.{Page, put}
-use Rattle.page.proofs.Laws.Page.{put-step}
-use Rattle.rows.specs.Fields.{padded}
-use Rattle.listing.specs.Row.{rowBytes, rowsBytes}
+use lib.Dec.{lit≤}
+use lib.ListN.{length}
+use Rattle.lexitem.specs.declared.item.LexItem.{LexItem}
+use Rattle.lexitem.specs.declared.item.LexItem.the-variants.{Empty, Header, Remark, Atom, Anisou, Crystal, Scale, OrigX, MtriX, Model, Master, Seqres, Dbref, Dbref1, Dbref2, Seqadv, Modres, SSBond, EndModel, Ter, End}
+use Rattle.rows.specs.Fields.{fieldsOf, padded}
 use Rattle.rows.specs.declared.row.Row.{Row}
-
-module _ (l : List ℕ) (rows : List Row) (i : ℕ) (p e : Page) where
-  pub rows-next : (none : Row) (q : Page) → i < length rows → q ≡ put p (rowBytes l (getD rows i none))
-      → put p (rowsBytes l (drop i rows)) ≡ e → put q (rowsBytes l (drop (i + 1) rows)) ≡ e
-  unfolding rowsBytes
-  rows-next none q h f v =
-      put-step p q e (rowBytes l (getD rows i none)) (rowsBytes l (drop (i + 1) rows)) f (rw (add-one i) (rw (drop-cons rows i none h) at v))
-
-  pub rows-done : length rows ≤ i → put p (rowsBytes l (drop i rows)) ≡ e → p ≡ e
-  unfolding put rowsBytes
-  rows-done h v = rw (drop-of-length-le rows h) at v
+use Rattle.listing.specs.Each.{each}
+use Rattle.listing.specs.Row.{rowBytes, rowsBytes}
 
 nothing : (l : List ℕ) (k : ℕ) → rowsBytes l (padded k []) ≡ []
-unfolding rowsBytes rowBytes
+unfolding each rowBytes
 nothing l ℕ.zero = refl
 nothing l (suc k) = nothing l k
 
-pub rows-padded : (l : List ℕ) (k : ℕ) (rows : List Row) → length rows ≤ k → rowsBytes l (padded k rows) ≡ rowsBytes l rows
-unfolding rowsBytes
+rows-padded : (l : List ℕ) (k : ℕ) (rows : List Row) → length rows ≤ k → rowsBytes l (padded k rows) ≡ rowsBytes l rows
+unfolding each
 rows-padded l k [] h = nothing l k
 rows-padded l ℕ.zero (r ∷ t) h = absurd (omega arith)
 rows-padded l (suc k) (r ∷ t) h = ap (λ (bs : List ℕ). rowBytes l r ++ bs) (rows-padded l k t (omega arith))
+
+sixteen : (item : LexItem) → length (fieldsOf item) ≤ 16
+sixteen Empty = lit≤ tt
+sixteen (Header h) = lit≤ tt
+sixteen (Remark r) = lit≤ tt
+sixteen (Atom a) = lit≤ tt
+sixteen (Anisou a) = lit≤ tt
+sixteen (Crystal c) = lit≤ tt
+sixteen (Scale s) = lit≤ tt
+sixteen (OrigX o) = lit≤ tt
+sixteen (MtriX m) = lit≤ tt
+sixteen (Model m) = lit≤ tt
+sixteen (Master m) = lit≤ tt
+sixteen (Seqres s) = lit≤ tt
+sixteen (Dbref d) = lit≤ tt
+sixteen (Dbref1 d) = lit≤ tt
+sixteen (Dbref2 d) = lit≤ tt
+sixteen (Seqadv s) = lit≤ tt
+sixteen (Modres m) = lit≤ tt
+sixteen (SSBond s) = lit≤ tt
+sixteen EndModel = lit≤ tt
+sixteen Ter = lit≤ tt
+sixteen End = lit≤ tt
+
+pub fields-padded : (l : List ℕ) (item : LexItem) → rowsBytes l (padded 16 (fieldsOf item)) ≡ rowsBytes l (fieldsOf item)
+fields-padded l item = rows-padded l 16 (fieldsOf item) (sixteen item)

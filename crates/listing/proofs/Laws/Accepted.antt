@@ -1,0 +1,65 @@
+-- What an accepted line is: no row of refusals holds of it.
+--     accepted-item      its record is that of its kind
+--     accepted-line      it has at most 1,024 bytes
+--     accepted-count     at most sixteen faults are counted
+--     accepted-few       and listed
+-- Assumes nothing.
+use Prim.Native.Nat.{_≤_}
+use mathlib.Core.Path.{_≡_, refl, sym, ap, _∙_}
+use mathlib.Core.Bool.{Bool, true, false, cond}
+use mathlib.Core.List.{List, [], _∷_}
+use native.Mathlib.Omega.{arith}
+use borrow.Author.Tests.{ltb-false}
+use lib.ListN.{length, take, drop}
+use lib.Dec.{ltb}
+use Rattle.lexer.specs.Item.{itemOf}
+use Rattle.lexer.specs.Lexed.{refused, accepted, firstOf, lexed}
+use Rattle.lexer.specs.Refusals.{Input, Row, rows, kind, faults}
+use Rattle.lexitem.specs.Faults.{listed}
+use Rattle.lexitem.specs.declared.answer.Answer.{Answer}
+use Rattle.lexitem.specs.declared.answer.Outcome.the-variants.{Accepted}
+use Rattle.lexitem.specs.declared.answer.Refusal.{Refusal}
+use Rattle.lexitem.specs.declared.item.LexItem.{LexItem}
+use Rattle.lexitem.proofs.Laws.Faults.{noted-exact, noted-listed}
+
+module _ (i : Input) (x : LexItem) where
+  row-failed : (b : Bool) (r : Refusal) (else : Answer) → cond b (refused i r) else .outcome ≡ Accepted x → b ≡ false
+  row-failed true r else e = cc
+  row-failed false r else e = refl
+
+  rows-passed : (rs : List Row) (else : Answer) → firstOf i rs else .outcome ≡ Accepted x → firstOf i rs else ≡ else
+  rows-passed [] else e = refl
+  rows-passed (r ∷ rest) else e = go (r .holds) (rows-passed rest else) e
+    where
+      go : (b : Bool) → (firstOf i rest else .outcome ≡ Accepted x → firstOf i rest else ≡ else)
+          → cond b (refused i (r .gives)) (firstOf i rest else) .outcome ≡ Accepted x
+          → cond b (refused i (r .gives)) (firstOf i rest else) ≡ else
+      go true on e = cc
+      go false on e = on e
+
+  module _ (yes : lexed i .outcome ≡ Accepted x) where
+    is-accepted : lexed i ≡ accepted i
+    unfolding lexed
+    is-accepted = rows-passed (rows i) (accepted i) yes
+
+    pub accepted-item : x ≡ itemOf (kind i) (i .line)
+    accepted-item = let e = is-accepted in cc
+
+    pub accepted-line : length (i .line) ≤ 1024
+    unfolding lexed
+    accepted-line =
+        let on = rows-passed (take 1 (rows i)) (firstOf i (drop 1 (rows i)) (accepted i)) yes in
+        ltb-false 1024 (length (i .line))
+        (row-failed _ _ (firstOf i (drop 2 (rows i)) (accepted i)) (ap (λ (a : Answer). a .outcome) (sym on) ∙ yes))
+
+    few : length (faults i) ≤ 16
+    unfolding lexed
+    few =
+        let on = rows-passed (take 6 (rows i)) (firstOf i (drop 6 (rows i)) (accepted i)) yes in
+        ltb-false 16 (length (faults i)) (row-failed _ _ (accepted i) (ap (λ (a : Answer). a .outcome) (sym on) ∙ yes))
+
+    pub accepted-count : lexed i .faults .count ≤ 16
+    accepted-count = rw is-accepted (rw (noted-exact (faults i) few) few)
+
+    pub accepted-few : length (listed (lexed i .faults)) ≤ 16
+    accepted-few = rw is-accepted (rw (noted-listed (faults i) few) few)

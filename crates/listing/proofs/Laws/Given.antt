@@ -1,0 +1,48 @@
+-- What `list_line` makes of an answer of the lexer, by its outcome.
+--     fit-asks           an accepted line's listing is as short as `fit` asks
+--     listed-fit         what `fit` leaves then is what listing the line leaves
+--     listed-refused     a refusal is handed back
+-- Assumes nothing.
+use Prim.Native.Nat.{ℕ, _^_, _≤_, _<_}
+use mathlib.Core.Path.{_≡_, refl, sym, ap, _∙_}
+use mathlib.Core.List.{List}
+use native.Mathlib.Omega.{arith}
+use lib.ListN.{length, take}
+use Rattle.lexer.specs.Lexed.{lexed}
+use Rattle.lexer.specs.Refusals.{Input}
+use Rattle.lexitem.specs.Faults.{listed}
+use Rattle.lexitem.specs.declared.answer.Answer.{Answer}
+use Rattle.lexitem.specs.declared.answer.Outcome.{Outcome}
+use Rattle.lexitem.specs.declared.answer.Outcome.the-variants.{Accepted, Refused}
+use Rattle.lexitem.specs.declared.answer.Refusal.{Refusal}
+use Rattle.lexitem.specs.declared.item.LexItem.{LexItem}
+use Rattle.listing.specs.Listed.{Fitted, ListedInto, listedAnswer, listedBytes, listingBy}
+use Rattle.listing.specs.Listing.{listingOf}
+use Rattle.listing.specs.declared.Listed.{Listed}
+use Rattle.listing.specs.declared.Listed.the-variants as listing
+use Rattle.listing.proofs.Laws.Accepted.{accepted-count}
+use Rattle.listing.proofs.Laws.Longest.{listing-longest}
+
+module _ (i : Input) (a : Answer) (x : LexItem) (e : a ≡ lexed i) (o : a .outcome ≡ Accepted x) where
+  so : lexed i .outcome ≡ Accepted x
+  so = ap (λ (b : Answer). b .outcome) (sym e) ∙ o
+
+  pub fit-asks : (a .faults .count ≤ 16) × (length (listingOf (i .number) (i .line) x (take (a .faults .count) (a .faults .list))) < 2 ^ 64)
+  unfolding listed
+  fit-asks = rw e (accepted-count i x so, (let h = listing-longest i x so in omega arith))
+
+  pub listed-fit : (before : List ℕ) (r : Listed) (after : List ℕ)
+      → Fitted before (listingOf (i .number) (i .line) x (take (a .faults .count) (a .faults .list))) r after → ListedInto before i r after
+  unfolding listed
+  listed-fit before r after h =
+      let f = rw e at h in
+      record {
+        answer = f .answer ∙ ap (listedAnswer before i) (sym so);
+        bytes = f .bytes ∙ ap (listedBytes before i) (sym so);
+      }
+
+pub listed-refused : (i : Input) (a : Answer) (x : Refusal) (before : List ℕ) → a ≡ lexed i → a .outcome ≡ Refused x
+    → ListedInto before i (listing.Refused x) before
+listed-refused i a x before e o =
+    let so : lexed i .outcome ≡ Refused x = ap (λ (b : Answer). b .outcome) (sym e) ∙ o in
+    record { answer = ap (listedAnswer before i) (sym so); bytes = ap (listedBytes before i) (sym so) }
