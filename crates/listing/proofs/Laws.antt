@@ -1,4 +1,6 @@
--- The laws of the words in specs/.
+-- The laws of the words in specs/. Each and Rows are of the bytes of rows and faults, Fitted of a listing on lent bytes, Accepted, Room and
+-- Longest of how long one can be, Given of what the entry makes of an answer, and One says that its contract leaves nothing free. Cases is what
+-- the definitions give at their edges.
 pub mod Each
 pub mod Rows
 pub mod Fitted
@@ -7,3 +9,4 @@ pub mod Room
 pub mod Longest
 pub mod Given
 pub mod One
+pub mod Cases

@@ -8,10 +8,8 @@ use Prim.Native.Nat.{_≤_}
 use mathlib.Core.Path.{_≡_, refl, sym, ap, _∙_}
 use mathlib.Core.Bool.{Bool, true, false, cond}
 use mathlib.Core.List.{List, [], _∷_}
-use native.Mathlib.Omega.{arith}
 use borrow.Author.Tests.{ltb-false}
 use lib.ListN.{length, take, drop}
-use lib.Dec.{ltb}
 use Rattle.lexer.specs.Item.{itemOf}
 use Rattle.lexer.specs.Lexed.{refused, accepted, firstOf, lexed}
 use Rattle.lexer.specs.Refusals.{Input, Row, rows, kind, faults}

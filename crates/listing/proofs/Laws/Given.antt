@@ -4,7 +4,7 @@
 --     listed-refused     a refusal is handed back
 -- Assumes nothing.
 use Prim.Native.Nat.{ℕ, _^_, _≤_, _<_}
-use mathlib.Core.Path.{_≡_, refl, sym, ap, _∙_}
+use mathlib.Core.Path.{_≡_, sym, ap, _∙_}
 use mathlib.Core.List.{List}
 use native.Mathlib.Omega.{arith}
 use lib.ListN.{length, take}
@@ -12,11 +12,10 @@ use Rattle.lexer.specs.Lexed.{lexed}
 use Rattle.lexer.specs.Refusals.{Input}
 use Rattle.lexitem.specs.Faults.{listed}
 use Rattle.lexitem.specs.declared.answer.Answer.{Answer}
-use Rattle.lexitem.specs.declared.answer.Outcome.{Outcome}
 use Rattle.lexitem.specs.declared.answer.Outcome.the-variants.{Accepted, Refused}
 use Rattle.lexitem.specs.declared.answer.Refusal.{Refusal}
 use Rattle.lexitem.specs.declared.item.LexItem.{LexItem}
-use Rattle.listing.specs.Listed.{Fitted, ListedInto, listedAnswer, listedBytes, listingBy}
+use Rattle.listing.specs.Listed.{Fitted, ListedInto, listedAnswer, listedBytes}
 use Rattle.listing.specs.Listing.{listingOf}
 use Rattle.listing.specs.declared.Listed.{Listed}
 use Rattle.listing.specs.declared.Listed.the-variants as listing

@@ -6,10 +6,10 @@
 use Prim.Native.Nat.{ℕ, suc, _+_, _*_, _≤_, _<_}
 use mathlib.Core.Path.{_≡_}
 use mathlib.Core.Bool.{Bool, true, false, cond}
-use mathlib.Core.List.{List, [], _∷_, _++_}
+use mathlib.Core.List.{List, [], _∷_}
 use native.Mathlib.Omega.{arith}
 use lib.ListN.{length, length-append}
-use lib.Dec.{ltb, leb, lit≤}
+use lib.Dec.{ltb, lit≤}
 use Rattle.kind.specs.Kind.{bytes}
 use Rattle.kind.specs.declared.Kind.{Kind}
 use Rattle.kind.specs.declared.Kind.the-variants.{Empty, Header, Remark, Atom, Hetatm, Anisou, Cryst1, Scale, Origx, Mtrix, Model, Master, Dbref, Dbref1, Dbref2, Seqres, Seqadv, Modres, Ssbond, Endmdl, Ter, End}
@@ -29,7 +29,7 @@ use Rattle.records.specs.Seqadv.{hasTarget, targetOf}
 use Rattle.records.specs.Seqres.{triplesOf}
 use Rattle.records.specs.Ssbond.{hasTail, tailOf}
 use Rattle.rows.specs.Fields.{fieldsOf, tripleRow, tripleRows, targetName, targetNumber, tailFirst, tailSecond, tailLength}
-use Rattle.rows.specs.Name.{nameOf, rowDigit}
+use Rattle.rows.specs.Name.{nameOf}
 use Rattle.rows.specs.declared.row.Value.{Value}
 use Rattle.rows.specs.declared.row.Value.the-variants.{Words, Nothing}
 use Rattle.listing.specs.Each.{each}

@@ -2,7 +2,7 @@
 --     listed-one          two answers that it allows coincide, with every lent byte
 --     listed-untouched    lent bytes are as they were where a line is refused, by its own refusals or for its length
 -- Assumes nothing.
-use Prim.Native.Nat.{ℕ, _≤_}
+use Prim.Native.Nat.{ℕ}
 use mathlib.Core.Path.{_≡_, refl, sym, _∙_}
 use mathlib.Core.Bool.{Bool, true, false, cond}
 use mathlib.Core.List.{List, _++_}
@@ -13,7 +13,7 @@ use Rattle.lexer.specs.Refusals.{Input}
 use Rattle.lexitem.specs.declared.answer.Outcome.{Outcome}
 use Rattle.lexitem.specs.declared.answer.Outcome.the-variants as outcome
 use Rattle.lexitem.specs.declared.answer.Refusal.{Refusal}
-use Rattle.listing.specs.Listed.{ListedInto, listedAnswer, listedBytes, listingBy, fittedAnswer, fittedBytes}
+use Rattle.listing.specs.Listed.{ListedInto, listedAnswer, listedBytes, listingBy}
 use Rattle.listing.specs.declared.Listed.{Listed}
 use Rattle.listing.specs.declared.Listed.the-variants.{Written, Refused}
 
