@@ -34,9 +34,13 @@ pub record Fitted (before listing : List ℕ) (r : Listed) (after : List ℕ) : 
 abbrev pub listingBy : Input → LexItem → List ℕ
 listingBy i item = listingOf (i .number) (i .line) item (listed (lexed i .faults))
 
-abbrev pub listedAnswer : List ℕ → Input → Outcome → Listed
-listedAnswer before i (outcome.Accepted item) = fittedAnswer (length before) (listingBy i item)
-listedAnswer before i (outcome.Refused r) = Refused r
+-- what is answered where there is so much room
+abbrev pub listedAnswer : ℕ → Input → Outcome → Listed
+listedAnswer room i (outcome.Accepted item) = fittedAnswer room (listingBy i item)
+listedAnswer room i (outcome.Refused r) = Refused r
+
+abbrev pub measured : ℕ → Input → Listed
+measured room i = listedAnswer room i (lexed i .outcome)
 
 abbrev pub listedBytes : List ℕ → Input → Outcome → List ℕ
 listedBytes before i (outcome.Accepted item) = fittedBytes before (listingBy i item)
@@ -44,5 +48,5 @@ listedBytes before i (outcome.Refused r) = before
 
 -- what is answered, and every lent byte afterwards
 pub record ListedInto (before : List ℕ) (i : Input) (r : Listed) (after : List ℕ) : Type 0 where
-  pub answer : r ≡ listedAnswer before i (lexed i .outcome)
+  pub answer : r ≡ measured (length before) i
   pub bytes : after ≡ listedBytes before i (lexed i .outcome)

@@ -8,8 +8,8 @@ ghost use Rattle.listing.specs.Listing as specs;
 ghost use Rattle.page.specs.Page.{page, put};
 ghost use Rattle.rows.specs.Name.{nameOf};
 
-pub mod fault;
-pub mod put;
+mod fault;
+mod put;
 
 use crate::fault::put_faults;
 use crate::put::put_rows;
@@ -80,6 +80,26 @@ pub enum Listed {
     Refused(Refusal),
 }
 
+// What is answered where there is so much room. One byte of our own is enough to measure a listing.
+fn measure(
+    line: &[u8],
+    number: usize,
+    item: LexItem,
+    faults: [Fault; 16],
+    count: usize,
+    room: usize,
+) -> Listed
+    requires { ⌜ (count ≤ 16) × (length (specs.listingOf number (now line) item (take count faults)) < 2 ^ 64) ⌝ }
+    ensures { λ r. ⌜ r ≡ into.fittedAnswer room (specs.listingOf number (now (line .entry)) item (take count faults)) ⌝ }
+{
+    let mut one = [0u8; 1];
+    let needed = put_listing(&mut one, 0, line, number, item, faults, count);
+    if room < needed {
+        return Listed::Refused(Refusal::new(8, 0, needed));
+    }
+    Listed::Written(needed)
+}
+
 // Measures the listing, and writes it if it fits.
 fn fit(
     line: &[u8],
@@ -92,12 +112,18 @@ fn fit(
     requires { ⌜ (count ≤ 16) × (length (specs.listingOf number (now line) item (take count faults)) < 2 ^ 64) ⌝ }
     ensures { λ r. ⌜ into.Fitted (now (out .entry)) (specs.listingOf number (now (line .entry)) item (take count faults)) r (now (out .exit)) ⌝ }
 {
-    let mut one = [0u8; 1];
-    let needed = put_listing(&mut one, 0, line, number, item, faults, count);
-    if out.len() < needed {
-        return Listed::Refused(Refusal::new(8, 0, needed));
+    match measure(line, number, item, faults, count, out.len()) {
+        Listed::Refused(refusal) => Listed::Refused(refusal),
+        Listed::Written(_) => Listed::Written(put_listing(
+            out,
+            0,
+            line,
+            number,
+            item,
+            faults,
+            count,
+        )),
     }
-    Listed::Written(put_listing(out, 0, line, number, item, faults, count))
 }
 
 // Lists a line of any bytes into lent bytes of any number. The remark table has 1,000 bytes, byte n nonzero when
@@ -117,6 +143,26 @@ pub fn list_line(
     let outcome = answer.outcome;
     match outcome {
         Outcome::Accepted(item) => fit(line, number, item, list, faults.count, out),
+        Outcome::Refused(refusal) => Listed::Refused(refusal),
+    }
+}
+
+// What `list_line` answers where so many bytes are lent, without them.
+pub fn measure_line(
+    line: &[u8],
+    number: usize,
+    options: Options,
+    remarks: &[u8],
+    room: usize,
+) -> Listed
+    ensures { λ r. ⌜ r ≡ into.measured room (record { line = now (line .entry); number = number; options = options; remarks = now (remarks .entry) }) ⌝ }
+{
+    let answer = lex_line(line, number, options, remarks);
+    let faults = answer.faults;
+    let list = faults.list;
+    let outcome = answer.outcome;
+    match outcome {
+        Outcome::Accepted(item) => measure(line, number, item, list, faults.count, room),
         Outcome::Refused(refusal) => Listed::Refused(refusal),
     }
 }

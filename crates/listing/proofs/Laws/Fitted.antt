@@ -1,32 +1,53 @@
--- What a listing leaves on lent bytes, by what the two puts say: the first, on other bytes, measures it.
---     fitted-no, fitted-yes     it is too long, and it fits
+-- What a listing leaves on lent bytes. It is measured first, by a put on other bytes.
+--     measured-no, measured-yes     what is answered by its length: too long, and short enough
+--     fitted-no, fitted-yes         what is left then on the lent bytes
 -- Assumes nothing.
 use Prim.Native.Nat.{ℕ, _^_, _≤_, _<_}
-use mathlib.Core.Path.{_≡_, refl, ap, _∙_}
-use mathlib.Core.List.{List}
+use mathlib.Core.Path.{_≡_, refl, sym, ap, _∙_}
+use mathlib.Core.Bool.{Bool, true, false, cond}
+use mathlib.Core.List.{List, _++_}
 use native.Mathlib.Omega.{arith}
-use borrow.Author.Tests.{le-leb, lt-leb}
-use lib.ListN.{length}
+use borrow.Author.Tests.{le-leb, lt-leb, leb-true}
+use lib.ListN.{length, drop}
+use lib.Dec.{leb}
+use Rattle.lexitem.specs.declared.answer.Refusal.{Refusal}
 use Rattle.page.specs.Page.{Page, page, put}
 use Rattle.page.proofs.Laws.Page.{put-count, put-front}
-use Rattle.listing.specs.Listed.{Fitted}
+use Rattle.listing.specs.Listed.{Fitted, fittedAnswer, fittedBytes}
+use Rattle.listing.specs.declared.Listed.{Listed}
 use Rattle.listing.specs.declared.Listed.the-variants.{Written, Refused}
 
-module _ (before listing : List ℕ) (short : length listing < 2 ^ 64) (one mark : List ℕ) (n : ℕ) (e : page mark n ≡ put (page one 0) listing) where
-  measured : n ≡ length listing
-  measured = ap (λ (p : Page). p .at) e ∙ put-count one listing short
+module _ (room : ℕ) (listing : List ℕ) (short : length listing < 2 ^ 64) (one mark : List ℕ) (n : ℕ) (e : page mark n ≡ put (page one 0) listing) where
+  counted : n ≡ length listing
+  counted = ap (λ (p : Page). p .at) e ∙ put-count one listing short
 
-  pub fitted-no : length before < n → Fitted before listing (Refused (record { number = 8; place = 0; length = n })) before
-  fitted-no h =
-      let m = measured in
-      let no = lt-leb (length listing) (length before) (omega arith) in
-      record { answer = rw (no, m) refl; bytes = rw no refl }
+  pub measured-no : room < n → Refused (record { number = 8; place = 0; length = n }) ≡ fittedAnswer room listing
+  measured-no h = let m = counted in rw (lt-leb (length listing) room (omega arith), m) refl
 
-  pub fitted-yes : (after : List ℕ) (r : ℕ) → length before < 2 ^ 64 → n ≤ length before → page after r ≡ put (page before 0) listing
-      → Fitted before listing (Written r) after
-  fitted-yes after r room h f =
-      let m = measured in
-      let yes = le-leb (length listing) (length before) (omega arith) in
+  pub measured-yes : n ≤ room → Written n ≡ fittedAnswer room listing
+  measured-yes h = let m = counted in rw (le-leb (length listing) room (omega arith), m) refl
+
+-- ---- by what is answered
+no-bytes : (before listing : List ℕ) (b : Bool) (x n : Refusal) → Refused x ≡ cond b (Written (length listing)) (Refused n)
+    → cond b (listing ++ drop (length listing) before) before ≡ before
+no-bytes before listing true x n e = cc
+no-bytes before listing false x n e = refl
+
+pub untouched : (before listing : List ℕ) (x : Refusal) → Refused x ≡ fittedAnswer (length before) listing → fittedBytes before listing ≡ before
+untouched before listing x e = no-bytes before listing (leb (length listing) (length before)) x _ e
+
+pub fitted-no : (before listing : List ℕ) (x : Refusal) → Refused x ≡ fittedAnswer (length before) listing → Fitted before listing (Refused x) before
+fitted-no before listing x e = record { answer = e; bytes = sym (untouched before listing x e) }
+
+is-short : (b : Bool) (k n : ℕ) (x : Refusal) → Written k ≡ cond b (Written n) (Refused x) → b ≡ true
+is-short true k n x e = refl
+is-short false k n x e = cc
+
+module _ (before listing : List ℕ) (short : length listing < 2 ^ 64) (k : ℕ) (e : Written k ≡ fittedAnswer (length before) listing) where
+  pub fitted-yes : (after : List ℕ) (r : ℕ) → length before < 2 ^ 64 → page after r ≡ put (page before 0) listing → Fitted before listing (Written r) after
+  fitted-yes after r room f =
+      let yes = is-short (leb (length listing) (length before)) k (length listing) _ e in
+      let h = leb-true (length listing) (length before) yes in
       record {
         answer = rw yes (ap Written (ap (λ (p : Page). p .at) f ∙ put-count before listing short));
         bytes = rw yes (ap (λ (p : Page). p .bytes) f ∙ put-front before listing room (omega arith));

@@ -1,7 +1,7 @@
 -- What `list_line` makes of an answer of the lexer, by its outcome.
---     fit-asks           an accepted line's listing is as short as `fit` asks
---     listed-fit         what `fit` leaves then is what listing the line leaves
---     listed-refused     a refusal is handed back
+--     fit-asks                            an accepted line's listing is as short as `fit` asks
+--     listed-fit, measured-fit            what `fit` leaves then is what listing the line leaves, and so for what `measure` answers
+--     listed-refused, measured-refused    a refusal is handed back
 -- Assumes nothing.
 use Prim.Native.Nat.{ℕ, _^_, _≤_, _<_}
 use mathlib.Core.Path.{_≡_, sym, ap, _∙_}
@@ -15,7 +15,7 @@ use Rattle.lexitem.specs.declared.answer.Answer.{Answer}
 use Rattle.lexitem.specs.declared.answer.Outcome.the-variants.{Accepted, Refused}
 use Rattle.lexitem.specs.declared.answer.Refusal.{Refusal}
 use Rattle.lexitem.specs.declared.item.LexItem.{LexItem}
-use Rattle.listing.specs.Listed.{Fitted, ListedInto, listedAnswer, listedBytes}
+use Rattle.listing.specs.Listed.{Fitted, ListedInto, fittedAnswer, listedAnswer, listedBytes, measured}
 use Rattle.listing.specs.Listing.{listingOf}
 use Rattle.listing.specs.declared.Listed.{Listed}
 use Rattle.listing.specs.declared.Listed.the-variants as listing
@@ -36,12 +36,22 @@ module _ (i : Input) (a : Answer) (x : LexItem) (e : a ≡ lexed i) (o : a .outc
   listed-fit before r after h =
       let f = rw e at h in
       record {
-        answer = f .answer ∙ ap (listedAnswer before i) (sym so);
+        answer = f .answer ∙ ap (listedAnswer (length before) i) (sym so);
         bytes = f .bytes ∙ ap (listedBytes before i) (sym so);
       }
+
+  pub measured-fit : (room : ℕ) (r : Listed)
+      → r ≡ fittedAnswer room (listingOf (i .number) (i .line) x (take (a .faults .count) (a .faults .list))) → r ≡ measured room i
+  unfolding listed
+  measured-fit room r h = rw e at h ∙ ap (listedAnswer room i) (sym so)
+
+pub measured-refused : (i : Input) (a : Answer) (x : Refusal) (room : ℕ) → a ≡ lexed i → a .outcome ≡ Refused x → listing.Refused x ≡ measured room i
+measured-refused i a x room e o =
+    let so : lexed i .outcome ≡ Refused x = ap (λ (b : Answer). b .outcome) (sym e) ∙ o in
+    ap (listedAnswer room i) (sym so)
 
 pub listed-refused : (i : Input) (a : Answer) (x : Refusal) (before : List ℕ) → a ≡ lexed i → a .outcome ≡ Refused x
     → ListedInto before i (listing.Refused x) before
 listed-refused i a x before e o =
     let so : lexed i .outcome ≡ Refused x = ap (λ (b : Answer). b .outcome) (sym e) ∙ o in
-    record { answer = ap (listedAnswer before i) (sym so); bytes = ap (listedBytes before i) (sym so) }
+    record { answer = measured-refused i a x (length before) e o; bytes = ap (listedBytes before i) (sym so) }
