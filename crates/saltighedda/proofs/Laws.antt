@@ -1,0 +1,4 @@
+-- The laws of the words in specs/. Face is of what the entries make of a listing's answer; One says that their contracts leave nothing free, and
+-- that the two sorts of answer tell the same.
+pub mod Face
+pub mod One

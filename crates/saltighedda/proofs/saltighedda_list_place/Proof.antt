@@ -1,0 +1,16 @@
+-- `saltighedda::saltighedda_list_place` meets its contract: it is that part of the refusal, and the lent bytes are only counted.
+-- Assumes nothing.
+use mathlib.Core.Path.{refl, ap}
+use Rattle.saltighedda.specs.Face.{placeOf}
+use borrow.Author.Needs.{needs}
+use Rattle.saltighedda.proofs.saltighedda_list_place.Statement.{statement}
+use Rattle.saltighedda.proofs.saltighedda_list_place.Tie as tie
+
+refusal-of-requires : tie.Need-refusal-of-requires
+refusal-of-requires c κs = search needs
+
+returns : tie.Need-returns
+returns c = record { answer = ap placeOf (c .refusal-of .ensures); bytes = refl }
+
+pub saltighedda-list-place-spec : {M : Type 1} → statement M
+saltighedda-list-place-spec = tie.close (tie.spec refusal-of-requires returns)

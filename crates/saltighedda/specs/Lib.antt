@@ -1,0 +1,2 @@
+-- The words that the contracts of the C face cite.
+pub mod Face
