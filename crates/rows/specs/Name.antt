@@ -1,10 +1,9 @@
 -- "Record names have no blanks."
-use Prim.Native.Nat.{ℕ, _≤_}
+use Prim.Native.Nat.{ℕ}
 use Prim.Native.String.{String}
-use mathlib.Core.Path.{_≡_}
 use mathlib.Core.Bool.{cond}
 use mathlib.Core.List.{List, [], _∷_, _++_}
-use lib.ListN.{take}
+use lib.ListN.{length, take}
 use lib.Dec.{eqb}
 use Rattle.kind.specs.Kind.{bytes}
 use Rattle.lexitem.specs.declared.item.LexItem.{LexItem}
@@ -41,7 +40,9 @@ nameOf item.EndModel = bytes "ENDMDL"
 nameOf item.Ter = bytes "TER"
 nameOf item.End = bytes "END"
 
--- the first bytes of a name's six are the item's name
-pub record Named (item : LexItem) (n : Name) : Type 0 where
-  pub name : take (n .length) (n .text) ≡ nameOf item
-  pub fits : n .length ≤ 6
+-- a name's six bytes, blanks behind it, and how many of them it has
+abbrev pub sixOf : List ℕ → Name
+sixOf t = record { text = take 6 (t ++ bytes "      "); length = length t }
+
+abbrev pub named : LexItem → Name
+named x = sixOf (nameOf x)

@@ -1,7 +1,6 @@
 // The name of a record, without blanks.
 ghost use mathlib.Core.Path.{_≡_};
-ghost use Prim.Native.Nat.{_+_, min};
-ghost use Rattle.rows.specs.Name.{Named, rowDigit};
+ghost use Rattle.rows.specs.Name.{named, rowDigit};
 use lexitem::item::LexItem;
 
 // Six bytes and how many of them are the name.
@@ -24,7 +23,7 @@ fn row_digit(row: usize) -> u8
 }
 
 pub fn name_of(item: LexItem) -> Name
-    ensures { λ r. ⌜ Named item r ⌝ }
+    ensures { λ r. ⌜ r ≡ named item ⌝ }
 {
     match item {
         LexItem::Empty => Name {

@@ -1,6 +1,6 @@
 // The rows of SCALEn, ORIGXn and MTRIXn.
 ghost use mathlib.Core.Path.{_≡_};
-ghost use Rattle.rows.specs.Fields.{rowsOf, scaleFields, origxFields, mtrixFields};
+ghost use Rattle.rows.specs.Fields.{rowsOf, transformationFields, scaleFields, origxFields, mtrixFields};
 use crate::row::Row;
 use crate::row::Rows;
 use crate::row::Value;
@@ -9,10 +9,10 @@ use lexitem::transformation::OrigX;
 use lexitem::transformation::Row as Transformation;
 use lexitem::transformation::Scale;
 
-pub fn scale_rows(scale: Scale) -> Rows
-    ensures { λ r. ⌜ r ≡ rowsOf (scaleFields scale) ⌝ }
+// The four values of a row.
+fn transformation_rows(values: Transformation) -> Rows
+    ensures { λ r. ⌜ r ≡ rowsOf (transformationFields values) ⌝ }
 {
-    let values = scale.values;
     let list = [
         Row(Transformation::A.start, Value::Real(values.a)),
         Row(Transformation::B.start, Value::Real(values.b)),
@@ -34,29 +34,16 @@ pub fn scale_rows(scale: Scale) -> Rows
     Rows { list }
 }
 
+pub fn scale_rows(scale: Scale) -> Rows
+    ensures { λ r. ⌜ r ≡ rowsOf (scaleFields scale) ⌝ }
+{
+    transformation_rows(scale.values)
+}
+
 pub fn origx_rows(origx: OrigX) -> Rows
     ensures { λ r. ⌜ r ≡ rowsOf (origxFields origx) ⌝ }
 {
-    let values = origx.values;
-    let list = [
-        Row(Transformation::A.start, Value::Real(values.a)),
-        Row(Transformation::B.start, Value::Real(values.b)),
-        Row(Transformation::C.start, Value::Real(values.c)),
-        Row(Transformation::D.start, Value::Real(values.d)),
-        Row::NONE,
-        Row::NONE,
-        Row::NONE,
-        Row::NONE,
-        Row::NONE,
-        Row::NONE,
-        Row::NONE,
-        Row::NONE,
-        Row::NONE,
-        Row::NONE,
-        Row::NONE,
-        Row::NONE,
-    ];
-    Rows { list }
+    transformation_rows(origx.values)
 }
 
 pub fn mtrix_rows(mtrix: MtriX) -> Rows

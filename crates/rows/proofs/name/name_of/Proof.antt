@@ -1,18 +1,15 @@
 -- `rows::name::name_of` meets its contract: each arm is a clause of `nameOf`.
 -- Assumes nothing.
-use Prim.Native.Nat.{_≤_}
 use mathlib.Core.Path.{_≡_, refl, sym, ap, _∙_}
-use lib.ListN.{take}
 use Rattle.lexitem.specs.declared.item.LexItem.{LexItem}
 use Rattle.rows.specs.declared.name.Name.{Name}
-use Rattle.rows.specs.Name.{Named, nameOf}
-use native.Mathlib.Omega.{arith}
+use Rattle.rows.specs.Name.{named}
 use borrow.Author.Needs.{needs}
 use Rattle.rows.proofs.name.name_of.Statement.{statement}
 use Rattle.rows.proofs.name.name_of.Tie as tie
 
-told : {i j : LexItem} {n : Name} → i ≡ j → take (n .length) (n .text) ≡ nameOf j → n .length ≤ 6 → Named i n
-told e name fits = record { name = name ∙ ap nameOf (sym e); fits = fits }
+told : {i j : LexItem} {n : Name} → i ≡ j → n ≡ named j → n ≡ named i
+told e name = name ∙ ap named (sym e)
 
 enum-told : tie.Need-enum-told
 enum-told c = search needs
@@ -27,7 +24,7 @@ enum-known-item : tie.Need-enum-known-item
 enum-known-item c = search needs
 
 returns : tie.Need-returns
-returns c = told (c .before .before .before .before .item .given .1) (rw (c .before .before .if1 .taken) refl) (omega arith)
+returns c = told (c .before .before .before .before .item .given .1) (rw (c .before .before .if1 .taken) refl)
 
 enum-told-4 : tie.Need-enum-told-4
 enum-told-4 c = search needs
@@ -90,67 +87,67 @@ enum-told-17 : tie.Need-enum-told-17
 enum-told-17 c = search needs
 
 returns-2 : tie.Need-returns-2
-returns-2 c = told (c .before .before .enum-told .given .1) refl (omega arith)
+returns-2 c = told (c .before .before .enum-told .given .1) refl
 
 returns-3 : tie.Need-returns-3
-returns-3 c = told (c .before .before .enum-told2 .given .1) refl (omega arith)
+returns-3 c = told (c .before .before .enum-told2 .given .1) refl
 
 returns-4 : tie.Need-returns-4
-returns-4 c = told (c .before .before .enum-told3 .given .1) refl (omega arith)
+returns-4 c = told (c .before .before .enum-told3 .given .1) refl
 
 returns-5 : tie.Need-returns-5
-returns-5 c = told (c .before .before .before .before .item .given .1) (rw (c .before .before .if1 .left) refl) (omega arith)
+returns-5 c = told (c .before .before .before .before .item .given .1) (rw (c .before .before .if1 .left) refl)
 
 returns-6 : tie.Need-returns-6
-returns-6 c = told (c .before .before .enum-told4 .given .1) refl (omega arith)
+returns-6 c = told (c .before .before .enum-told4 .given .1) refl
 
 returns-7 : tie.Need-returns-7
-returns-7 c = told (c .before .before .enum-told5 .given .1) refl (omega arith)
+returns-7 c = told (c .before .before .enum-told5 .given .1) refl
 
 returns-8 : tie.Need-returns-8
-returns-8 c = told (c .before .before .item2 .given .1) (rw (c .row-digit .ensures) refl) (omega arith)
+returns-8 c = told (c .before .before .item2 .given .1) (rw (c .row-digit .ensures) refl)
 
 returns-9 : tie.Need-returns-9
-returns-9 c = told (c .before .before .item3 .given .1) (rw (c .row-digit2 .ensures) refl) (omega arith)
+returns-9 c = told (c .before .before .item3 .given .1) (rw (c .row-digit2 .ensures) refl)
 
 returns-10 : tie.Need-returns-10
-returns-10 c = told (c .before .before .item4 .given .1) (rw (c .row-digit3 .ensures) refl) (omega arith)
+returns-10 c = told (c .before .before .item4 .given .1) (rw (c .row-digit3 .ensures) refl)
 
 returns-11 : tie.Need-returns-11
-returns-11 c = told (c .before .before .enum-told6 .given .1) refl (omega arith)
+returns-11 c = told (c .before .before .enum-told6 .given .1) refl
 
 returns-12 : tie.Need-returns-12
-returns-12 c = told (c .before .before .enum-told7 .given .1) refl (omega arith)
+returns-12 c = told (c .before .before .enum-told7 .given .1) refl
 
 returns-13 : tie.Need-returns-13
-returns-13 c = told (c .before .before .enum-told8 .given .1) refl (omega arith)
+returns-13 c = told (c .before .before .enum-told8 .given .1) refl
 
 returns-14 : tie.Need-returns-14
-returns-14 c = told (c .before .before .enum-told9 .given .1) refl (omega arith)
+returns-14 c = told (c .before .before .enum-told9 .given .1) refl
 
 returns-15 : tie.Need-returns-15
-returns-15 c = told (c .before .before .enum-told10 .given .1) refl (omega arith)
+returns-15 c = told (c .before .before .enum-told10 .given .1) refl
 
 returns-16 : tie.Need-returns-16
-returns-16 c = told (c .before .before .enum-told11 .given .1) refl (omega arith)
+returns-16 c = told (c .before .before .enum-told11 .given .1) refl
 
 returns-17 : tie.Need-returns-17
-returns-17 c = told (c .before .before .enum-told12 .given .1) refl (omega arith)
+returns-17 c = told (c .before .before .enum-told12 .given .1) refl
 
 returns-18 : tie.Need-returns-18
-returns-18 c = told (c .before .before .enum-told13 .given .1) refl (omega arith)
+returns-18 c = told (c .before .before .enum-told13 .given .1) refl
 
 returns-19 : tie.Need-returns-19
-returns-19 c = told (c .before .before .enum-told14 .given .1) refl (omega arith)
+returns-19 c = told (c .before .before .enum-told14 .given .1) refl
 
 returns-20 : tie.Need-returns-20
-returns-20 c = told (c .before .before .enum-told15 .given .1) refl (omega arith)
+returns-20 c = told (c .before .before .enum-told15 .given .1) refl
 
 returns-21 : tie.Need-returns-21
-returns-21 c = told (c .before .before .enum-told16 .given .1) refl (omega arith)
+returns-21 c = told (c .before .before .enum-told16 .given .1) refl
 
 returns-22 : tie.Need-returns-22
-returns-22 c = told (c .before .before .enum-told17 .given .1) refl (omega arith)
+returns-22 c = told (c .before .before .enum-told17 .given .1) refl
 
 pub name-of-spec : {M : Type 1} → statement M
 name-of-spec =
