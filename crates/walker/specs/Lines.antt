@@ -1,7 +1,7 @@
 -- "A line ends at LF, a CR just before LF is dropped, and an empty last piece is no line." LF is byte 10 and CR byte 13. A last piece that
 -- isn't empty is a line, and keeps a CR at its end.
 use Prim.Native.Nat.{ℕ, suc, _+_, _-_}
-use mathlib.Core.Bool.{Bool, false, cond, _&&_, _||_}
+use mathlib.Core.Bool.{Bool, true, false, cond, _&&_, _||_}
 use mathlib.Core.List.{List, [], _∷_}
 use lib.ListN.{length, take, drop}
 use lib.Dec.{leb, ltb, eqb}
@@ -66,3 +66,8 @@ walked f at = walkedFor (suc (length f)) f at
 unfoldable pub beforeLf : List ℕ → ℕ
 beforeLf [] = 0
 beforeLf (b ∷ t) = cond (eqb b 10) 0 (suc (beforeLf t))
+
+-- whether an LF was found before some bytes, or is among them
+unfoldable pub hasLf : Bool → List ℕ → Bool
+hasLf found [] = found
+hasLf found (b ∷ t) = hasLf (cond (eqb b 10) true found) t

@@ -1,8 +1,9 @@
 // A line ends at LF, a CR just before LF is dropped, and an empty last piece is no line.
+ghost use mathlib.Core.Bool.{false};
 ghost use mathlib.Core.Path.{_≡_};
 ghost use Prim.Native.Nat.{_+_, _<_};
 ghost use lib.ListN.{length, drop};
-ghost use Rattle.walker.specs.Lines.{beforeLf, lineLength, stepAt, partOf};
+ghost use Rattle.walker.specs.Lines.{beforeLf, hasLf, lineLength, stepAt, partOf};
 
 // What stands at an offset of a file: a line, from `start` up to `end`, with the offset of what follows it; or the end.
 pub enum Step {
@@ -14,11 +15,43 @@ pub enum Step {
     End,
 }
 
+// Whether some bytes hold an LF. There is no way out of the loop before its end, so that many bytes are compared at once.
+fn has_lf(bytes: &[u8]) -> bool
+    ensures { λ r. ⌜ r ≡ hasLf false (now (bytes .entry)) ⌝ }
+{
+    let mut found = false;
+    let mut i = 0;
+    while i < bytes.len() {
+        if bytes[i] == 10 {
+            found = true;
+        }
+        i += 1;
+    }
+    found
+}
+
+// An offset behind whole blocks of sixteen bytes that hold no LF.
+fn skip_blocks(file: &[u8], at: usize) -> usize
+    ensures { λ r. ⌜ r + beforeLf (drop r (now (file .entry))) ≡ at + beforeLf (drop at (now (file .entry))) ⌝ }
+{
+    let mut i = at;
+    while i < file.len() {
+        if file.len() - i < 16 {
+            return i;
+        }
+        if has_lf(&file[i..i + 16]) {
+            return i;
+        }
+        i += 16;
+    }
+    i
+}
+
 // Where the first LF stands from an offset on, or the end of the file if there is none.
 fn find_lf(file: &[u8], at: usize) -> usize
     ensures { λ r. ⌜ r ≡ at + beforeLf (drop at (now (file .entry))) ⌝ }
 {
-    let mut i = at;
+    let mut i = skip_blocks(file, at);
     while i < file.len() {
         if file[i] == 10 {
             return i;

@@ -1,4 +1,5 @@
--- `walker::lines::find_lf` meets its contract. The loop's invariant: the bytes before the LF are those passed and those before it in the rest.
+-- `walker::lines::find_lf` meets its contract. The loop's invariant, which holds behind the blocks that were passed: the bytes before the LF are
+-- those passed and those before it in the rest.
 -- Assumes nothing.
 use Prim.Native.Nat.{_+_, _-_}
 use mathlib.Core.Path.{_≡_}
@@ -16,15 +17,18 @@ Inv-loop file at i₀ i = i + beforeLf (drop i file) ≡ at + beforeLf (drop at 
 abbrev μ-loop : tie.MeasureT-loop
 μ-loop file at i₀ i = length file - i
 
+skip-blocks-requires : tie.Need-skip-blocks-requires Inv-loop μ-loop
+skip-blocks-requires c κs = search needs
+
 loop-holds : tie.Need-loop-holds Inv-loop μ-loop
-loop-holds c = search needs
+loop-holds c = c .skip-blocks .ensures
 
 shared-slice-read-if1 : tie.Need-shared-slice-read-if1 Inv-loop μ-loop
 shared-slice-read-if1 c = search needs
 
 returns : tie.Need-returns Inv-loop μ-loop
 returns c =
-    let f = c .before .before .before .before .args .file .now in
+    let f = c .before .before .before .before .before .before .args .file .now in
     let i = c .before .before .before .loop .i in
     omega (arith, lf-here f i (c .before .before .loop-test .taken) (c .if1 .taken))
 
@@ -36,13 +40,13 @@ loop-less c = search needs
 
 loop-again : tie.Need-loop-again Inv-loop μ-loop
 loop-again c =
-    let f = c .before .before .before .before .args .file .now in
+    let f = c .before .before .before .before .before .before .args .file .now in
     let i = c .before .before .before .loop .i in
     omega (arith, lf-other f i (c .before .before .loop-test .taken) (c .if1 .left))
 
 returns-2 : tie.Need-returns-2 Inv-loop μ-loop
 returns-2 c =
-    let f = c .before .before .args .file .now in
+    let f = c .before .before .before .before .args .file .now in
     let i = c .before .loop .i in
     omega (arith, lf-none f i (c .loop-test .left))
 
@@ -52,6 +56,7 @@ find-lf-spec =
     (tie.spec
     Inv-loop
     μ-loop
+    skip-blocks-requires
     loop-holds
     shared-slice-read-if1
     returns
