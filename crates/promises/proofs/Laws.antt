@@ -8,3 +8,4 @@ pub mod Agreeing
 pub mod Refusing
 pub mod Faults
 pub mod Edges
+pub mod One
