@@ -205,7 +205,7 @@ fn time(sides: &[&Side], file: &str, passes: usize) -> Vec<Vec<f64>> {
 fn print(sides: &[&Side], times: &mut [Vec<f64>]) {
     println!(
         "{:34}{:>11}{:>11}{:>10}{:>8}{:>12}{:>8}  aim",
-        "", "lines/s", "best", "ns/line", "best", "port's time", "best"
+        "", "lines/s", "best", "ns/line", "best", "times port", "best"
     );
     let port = (median(&mut times[0]), best(&times[0]));
     for (side, times) in sides.iter().zip(times) {
