@@ -1,7 +1,7 @@
 -- The words of the helpers, which take the refusals in the code's own steps. No rule of 01 is here: `lex_line` is proved to answer `lexed`.
 use Prim.Native.Nat.{ℕ, _-_}
 use mathlib.Core.Bool.{Bool, cond, not, _&&_}
-use mathlib.Core.List.{List, []}
+use mathlib.Core.List.{List, [], _∷_}
 use lib.ListN.{length}
 use lib.Dec.{ltb, leb, eqb}
 use Rattle.number.specs.Trim.{kept}
@@ -17,6 +17,11 @@ use Rattle.lexer.specs.Item.{tableOf, partial, itemOf}
 use Rattle.lexer.specs.Refusals.{boundOf}
 use Rattle.lexer.specs.declared.bound.Bound.{Bound}
 use Rattle.lexer.specs.declared.bound.Bound.the-variants as bound
+
+-- the highest of m and a list's bytes
+unfoldable pub highest : ℕ → List ℕ → ℕ
+highest m [] = m
+highest m (b ∷ t) = highest (cond (ltb m b) b m) t
 
 abbrev pub refusal : ℕ → ℕ → ℕ → Refusal
 refusal number place length = record { number = number; place = place; length = length }

@@ -19,8 +19,24 @@ use lexitem::answer::Refusal;
 use lexitem::fault::Faults;
 use records::Lexed;
 
-// How many bytes stand before the first of 128 or more.
-fn plain_length(line: &[u8]) -> usize
+// The highest byte of a line, 0 if it has none. The loop has no way out, so that many bytes go at once.
+fn highest(line: &[u8]) -> u8
+    ensures { λ r. ⌜ r ≡ steps.highest 0 (now (line .entry)) ⌝ }
+{
+    let mut most = 0;
+    let mut i = 0;
+    while i < line.len() {
+        let b = line[i];
+        if most < b {
+            most = b;
+        }
+        i += 1;
+    }
+    most
+}
+
+// How many bytes stand before the first of 128 or more, byte by byte.
+fn first_high(line: &[u8]) -> usize
     ensures { λ r. ⌜ r ≡ specs.plain (now (line .entry)) ⌝ }
 {
     let mut i = 0;
@@ -32,6 +48,16 @@ fn plain_length(line: &[u8]) -> usize
         }
     }
     i
+}
+
+// How many bytes stand before the first of 128 or more. Hardly a line has one, so it is looked for only where one is.
+fn plain_length(line: &[u8]) -> usize
+    ensures { λ r. ⌜ r ≡ specs.plain (now (line .entry)) ⌝ }
+{
+    if highest(line) < 128 {
+        return line.len();
+    }
+    first_high(line)
 }
 
 // A refusal: no record and an empty list of faults.

@@ -1,15 +1,21 @@
--- Laws of the bytes before the first of 128 or more, one byte further. Assumes nothing.
+-- Laws of the bytes before the first of 128 or more, one byte further, and of the highest byte.
+--     plain-on, plain-stop         one byte further, and where the bytes stop
+--     plain-le                     no more than the list has
+--     highest-more, highest-same   one byte further, a higher one and none such
+--     plain-whole                  no byte of 128 or more: all of them
+-- Assumes nothing.
 use Prim.Native.Nat.{ℕ, suc, _+_, _<_, _≤_}
-use mathlib.Core.Path.{_≡_, refl}
+use mathlib.Core.Path.{_≡_, refl, ap}
 use mathlib.Core.Bool.{Bool, true, false, cond}
 use mathlib.Core.List.{List, [], _∷_}
 use native.Mathlib.Numerals.{add-one}
 use native.Mathlib.Omega.{arith}
-use borrow.Author.Tests.{lt-ltb, le-ltb}
+use borrow.Author.Tests.{lt-ltb, le-ltb, ltb-true, ltb-false}
 use lib.ListN.{length, drop, getD}
 use lib.Seq.{drop-cons}
 use lib.Dec.{ltb}
 use Rattle.lexer.specs.Refusals.{plain}
+use Rattle.lexer.specs.Steps.{highest}
 
 module _ (t : List ℕ) (i : ℕ) (h : i < length t) where
   pub plain-on : getD t i 0 < 128 → plain (drop i t) ≡ suc (plain (drop (i + 1) t))
@@ -28,3 +34,34 @@ plain-le (b ∷ t) = go (ltb b 128) (plain-le t)
     go : (x : Bool) → plain t ≤ length t → cond x (suc (plain t)) 0 ≤ suc (length t)
     go true h = omega arith
     go false h = omega arith
+
+-- a byte and then the rest, by the test of the byte
+highest-cons : (b : ℕ) (t : List ℕ) (m : ℕ) (x : Bool) → ltb m b ≡ x → highest m (b ∷ t) ≡ highest (cond x b m) t
+unfolding highest
+highest-cons b t m x e = ap (λ (y : Bool). highest (cond y b m) t) e
+
+module _ (t : List ℕ) (i m : ℕ) (h : i < length t) where
+  pub highest-more : m < getD t i 0 → highest m (drop i t) ≡ highest (getD t i 0) (drop (i + 1) t)
+  highest-more e = rw (drop-cons t i 0, add-one i) (highest-cons (getD t i 0) (drop (suc i) t) m true (lt-ltb m (getD t i 0) e))
+
+  pub highest-same : getD t i 0 ≤ m → highest m (drop i t) ≡ highest m (drop (i + 1) t)
+  highest-same e = rw (drop-cons t i 0, add-one i) (highest-cons (getD t i 0) (drop (suc i) t) m false (le-ltb m (getD t i 0) e))
+
+highest-least : (t : List ℕ) (m : ℕ) → m ≤ highest m t
+unfolding highest
+highest-least [] m = omega arith
+highest-least (b ∷ t) m = go (ltb m b) refl (highest-least t)
+  where
+    go : (x : Bool) → ltb m b ≡ x → ((n : ℕ) → n ≤ highest n t) → m ≤ highest (cond x b m) t
+    go true e least = omega (arith, ltb-true m b e, least b)
+    go false e least = least m
+
+pub plain-whole : (t : List ℕ) (m : ℕ) → highest m t < 128 → plain t ≡ length t
+unfolding plain highest
+plain-whole [] m h = refl
+plain-whole (b ∷ t) m h = go (ltb m b) refl h (plain-whole t)
+  where
+    go : (x : Bool) → ltb m b ≡ x → highest (cond x b m) t < 128 → ((n : ℕ) → highest n t < 128 → plain t ≡ length t)
+        → cond (ltb b 128) (suc (plain t)) 0 ≡ suc (length t)
+    go true e h rest = rw (lt-ltb b 128 (omega (arith, highest-least t b)), rest b h) refl
+    go false e h rest = rw (lt-ltb b 128 (omega (arith, ltb-false m b e, highest-least t m)), rest m h) refl
