@@ -1,3 +1,4 @@
 -- The laws of the words in specs/.
 pub mod Fields
+pub mod Fine
 pub mod Table

@@ -13,7 +13,8 @@ use Rattle.lexitem.specs.declared.columns.Columns.{Columns}
 use Rattle.lexitem.specs.declared.fault.FaultKind.the-variants.{NoDigit, NoSign, Unknown}
 use Rattle.lexitem.specs.declared.fault.Fault.{Fault}
 use Rattle.lexitem.specs.declared.fault.Faults.{Faults}
-use Rattle.field.specs.Number.{faultAt}
+use Rattle.field.specs.Number.{faultAt, isFine}
+use Rattle.field.specs.declared.number_field.FineSigned.{FineSigned}
 use Rattle.field.specs.declared.number_field.GotSigned.{GotSigned}
 
 unfoldable pub bothBlank : ℕ → ℕ → Bool
@@ -36,6 +37,10 @@ chargeFaultsOf d s start =
     (cond (isSign s) [] (record { kind = NoSign; place = start + 1; length = 1 } ∷ []))
     (record { kind = NoDigit; place = start; length = 1 } ∷ [])
 
+-- the one of a charge that has one
+abbrev pub chargeFault : ℕ → ℕ → Fault
+chargeFault d start = cond (digit d) (record { kind = NoSign; place = start + 1; length = 1 }) (record { kind = NoDigit; place = start; length = 1 })
+
 unfoldable pub chargeAt : List ℕ → Columns → ℤ
 chargeAt l at = cond (charged (partOf l at)) (chargeOf (getD (partOf l at) 0 0) (getD (partOf l at) 1 0)) (pos 0)
 
@@ -49,12 +54,16 @@ isKnown remarks n = not (eqb (getD remarks n 0) 0)
 unfoldable pub knownFaults : List ℕ → ℕ → Columns → List Fault
 knownFaults remarks n at = cond (isKnown remarks n) [] (faultAt Unknown at ∷ [])
 
+-- ---- the charge, and whether it is fine
+abbrev pub fineCharge : List ℕ → Columns → FineSigned
+fineCharge l at = record { value = chargeAt l at; fine = isFine (chargeFaults l at) }
+
+abbrev pub fineChargeOf : ℕ → ℕ → FineSigned
+fineChargeOf d s = record { value = chargeOf d s; fine = digit d && isSign s }
+
 -- ---- the charge beside the faults with its own noted, and the faults with the look-up's noted
 abbrev pub gotCharge : List ℕ → Columns → Faults → GotSigned
 gotCharge l at fs = record { value = chargeAt l at; faults = allNoted fs (chargeFaults l at) }
-
-abbrev pub gotChargeOf : ℕ → ℕ → ℕ → Faults → GotSigned
-gotChargeOf d s start fs = record { value = chargeOf d s; faults = allNoted fs (chargeFaultsOf d s start) }
 
 abbrev pub knownNoted : List ℕ → ℕ → Columns → Faults → Faults
 knownNoted remarks n at fs = allNoted fs (knownFaults remarks n at)

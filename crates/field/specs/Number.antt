@@ -25,6 +25,9 @@ use Rattle.lexitem.specs.declared.fault.FaultKind.the-variants.{Short, Wrong}
 use Rattle.lexitem.specs.declared.fault.Fault.{Fault}
 use Rattle.lexitem.specs.declared.fault.Faults.{Faults}
 use Rattle.lexitem.specs.Faults.{allNoted}
+use Rattle.field.specs.declared.number_field.FineUnsigned.{FineUnsigned}
+use Rattle.field.specs.declared.number_field.FineSigned.{FineSigned}
+use Rattle.field.specs.declared.number_field.FineReal.{FineReal}
 use Rattle.field.specs.declared.number_field.GotUnsigned.{GotUnsigned}
 use Rattle.field.specs.declared.number_field.GotSigned.{GotSigned}
 use Rattle.field.specs.declared.number_field.GotReal.{GotReal}
@@ -76,6 +79,15 @@ unfoldable pub numberFaults : List ℕ → Columns → Sort → Bool → List Fa
 numberFaults l at sort fine =
     cond (ltb (length l) (at .end)) (shortAt at ∷ []) (cond fine [] (wrongAt sort at ∷ []))
 
+-- the one that it has, if it has one
+abbrev pub numberFault : List ℕ → Columns → Sort → Fault
+numberFault l at sort = cond (ltb (length l) (at .end)) (shortAt at) (wrongAt sort at)
+
+-- a field is fine if it has no fault
+abbrev pub isFine : List Fault → Bool
+isFine [] = true
+isFine (f ∷ t) = false
+
 -- U
 unfoldable pub unsignedAt : List ℕ → Columns → ℕ
 unsignedAt l at = orU (unsignedOf (partOf l at))
@@ -114,6 +126,16 @@ unsignedFrom l start = orU (unsignedOf (restOf l start))
 unfoldable pub unsignedFromFaults : List ℕ → ℕ → List Fault
 unsignedFromFaults l start =
     cond (isU (unsignedOf (restOf l start))) [] (wrongAt USort (restColumns l start) ∷ [])
+
+-- ---- a field's value, and whether the field is fine
+abbrev pub fineUnsigned : List ℕ → Columns → FineUnsigned
+fineUnsigned l at = record { value = unsignedAt l at; fine = isFine (unsignedFaults l at) }
+
+abbrev pub fineSigned : List ℕ → Columns → FineSigned
+fineSigned l at = record { value = signedAt l at; fine = isFine (signedFaults l at) }
+
+abbrev pub fineReal : List ℕ → Columns → Float → FineReal
+fineReal l at default = record { value = realAt l at default; fine = isFine (realFaults l at) }
 
 -- ---- a field's value beside the faults with its own noted
 abbrev pub gotUnsigned : List ℕ → Columns → Faults → GotUnsigned

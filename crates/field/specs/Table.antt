@@ -2,14 +2,14 @@
 -- Fault 5 follows a fault of the remark number itself." A kind's table has every field of its row in 01, those that can't fault too, and each
 -- entry gives at most one fault.
 use Prim.Native.Nat.{ℕ}
-use mathlib.Core.Bool.{Bool}
+use mathlib.Core.Bool.{Bool, true, _&&_}
 use mathlib.Core.List.{List, [], _∷_, _++_}
 use lib.Ieee.{Float}
 use Rattle.lexitem.specs.Faults.{allNoted}
 use Rattle.lexitem.specs.declared.columns.Columns.{Columns}
 use Rattle.lexitem.specs.declared.fault.Fault.{Fault}
 use Rattle.lexitem.specs.declared.fault.Faults.{Faults}
-use Rattle.field.specs.Number.{unsignedAt, unsignedFaults, signedFaults, realFaults, factorFaults, unsignedFromFaults}
+use Rattle.field.specs.Number.{isFine, unsignedAt, unsignedFaults, signedFaults, realFaults, factorFaults, unsignedFromFaults}
 use Rattle.field.specs.Text.{textFaults, characterFaults}
 use Rattle.field.specs.Charge.{chargeFaults, knownFaults}
 
@@ -68,3 +68,8 @@ tableFaults g (e ∷ rest) = faultsBy g e ++ tableFaults g rest
 abbrev pub tableNoted : Given → List Entry → Faults → Faults
 tableNoted g [] fs = fs
 tableNoted g (e ∷ rest) fs = tableNoted g rest (allNoted fs (faultsBy g e))
+
+-- whether every field of a table is fine
+abbrev pub allFine : Given → List Entry → Bool
+allFine g [] = true
+allFine g (e ∷ rest) = isFine (faultsBy g e) && allFine g rest

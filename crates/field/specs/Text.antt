@@ -16,9 +16,11 @@ use Rattle.lexitem.specs.declared.fault.FaultKind.the-variants.{Short}
 use Rattle.lexitem.specs.declared.fault.Fault.{Fault}
 use Rattle.lexitem.specs.declared.fault.Faults.{Faults}
 use Rattle.lexitem.specs.Faults.{allNoted}
+use Rattle.field.specs.declared.text_field.FineText.{FineText}
+use Rattle.field.specs.declared.text_field.FineCharacter.{FineCharacter}
 use Rattle.field.specs.declared.text_field.GotText.{GotText}
 use Rattle.field.specs.declared.text_field.GotCharacter.{GotCharacter}
-use Rattle.field.specs.Number.{shortAt}
+use Rattle.field.specs.Number.{shortAt, isFine}
 
 -- bytes from a place on, as a text: an empty one has place 0
 abbrev pub textOf : ℕ → ℕ → Text
@@ -59,6 +61,16 @@ unreached column = record { kind = Short; place = column; length = 1 }
 
 unfoldable pub characterFaults : List ℕ → ℕ → List Fault
 characterFaults l column = cond (ltb column (length l)) [] (unreached column ∷ [])
+
+-- ---- a field's value, and whether the field is fine
+abbrev pub fineText : List ℕ → Columns → FineText
+fineText l at = record { value = textAt l at; fine = isFine (textFaults l at) }
+
+abbrev pub fineCharacter : List ℕ → ℕ → FineCharacter
+fineCharacter l column = record { value = characterAt l column; fine = isFine (characterFaults l column) }
+
+abbrev pub fineOptional : List ℕ → ℕ → FineCharacter
+fineOptional l column = record { value = optionalAt l column; fine = isFine (characterFaults l column) }
 
 -- ---- a field's value beside the faults with its own noted
 abbrev pub gotText : List ℕ → Columns → Faults → GotText

@@ -18,6 +18,23 @@ use number::whole::Unsigned;
 use number::whole::read_signed;
 use number::whole::read_unsigned;
 
+// A field's value, and whether the field is fine: no fault is noted of it.
+pub struct FineUnsigned {
+    pub value: u64,
+    pub fine: bool,
+}
+
+pub struct FineSigned {
+    pub value: i64,
+    pub fine: bool,
+}
+
+pub struct FineReal {
+    pub value: f64,
+    pub fine: bool,
+}
+
+// A field's value beside the list with the field's fault, if it has one.
 pub struct GotUnsigned {
     pub value: u64,
     pub faults: Faults,
@@ -54,20 +71,64 @@ pub fn ends_before(line: &[u8], at: Columns) -> bool
     line.len() < at.end as usize
 }
 
-pub fn unsigned(line: &[u8], at: Columns, faults: Faults) -> GotUnsigned
-    ensures { λ r. ⌜ r ≡ specs.gotUnsigned (now (line .entry)) at faults ⌝ }
+// The fault of a number field that isn't fine.
+fn number_fault(line: &[u8], sort: Sort, at: Columns) -> Fault
+    ensures { λ r. ⌜ r ≡ specs.numberFault (now (line .entry)) at sort ⌝ }
 {
     if ends_before(line, at) {
-        return GotUnsigned {
+        return short(at);
+    }
+    wrong(sort, at)
+}
+
+pub fn fine_unsigned(line: &[u8], at: Columns) -> FineUnsigned
+    ensures { λ r. ⌜ r ≡ specs.fineUnsigned (now (line .entry)) at ⌝ }
+{
+    if ends_before(line, at) {
+        return FineUnsigned {
             value: 0,
-            faults: faults.note(short(at)),
+            fine: false,
         };
     }
     match read_unsigned(at.part(line)) {
-        Unsigned::U(value) => GotUnsigned { value, faults },
-        Unsigned::NotU => GotUnsigned {
+        Unsigned::U(value) => FineUnsigned { value, fine: true },
+        Unsigned::NotU => FineUnsigned {
             value: 0,
-            faults: faults.note(wrong(Sort::Unsigned, at)),
+            fine: false,
+        },
+    }
+}
+
+pub fn unsigned(line: &[u8], at: Columns, faults: Faults) -> GotUnsigned
+    ensures { λ r. ⌜ r ≡ specs.gotUnsigned (now (line .entry)) at faults ⌝ }
+{
+    let got = fine_unsigned(line, at);
+    if got.fine {
+        return GotUnsigned {
+            value: got.value,
+            faults,
+        };
+    }
+    GotUnsigned {
+        value: got.value,
+        faults: faults.note(number_fault(line, Sort::Unsigned, at)),
+    }
+}
+
+pub fn fine_signed(line: &[u8], at: Columns) -> FineSigned
+    ensures { λ r. ⌜ r ≡ specs.fineSigned (now (line .entry)) at ⌝ }
+{
+    if ends_before(line, at) {
+        return FineSigned {
+            value: 0,
+            fine: false,
+        };
+    }
+    match read_signed(at.part(line)) {
+        Signed::I(value) => FineSigned { value, fine: true },
+        Signed::NotI => FineSigned {
+            value: 0,
+            fine: false,
         },
     }
 }
@@ -75,17 +136,33 @@ pub fn unsigned(line: &[u8], at: Columns, faults: Faults) -> GotUnsigned
 pub fn signed(line: &[u8], at: Columns, faults: Faults) -> GotSigned
     ensures { λ r. ⌜ r ≡ specs.gotSigned (now (line .entry)) at faults ⌝ }
 {
-    if ends_before(line, at) {
+    let got = fine_signed(line, at);
+    if got.fine {
         return GotSigned {
-            value: 0,
-            faults: faults.note(short(at)),
+            value: got.value,
+            faults,
         };
     }
-    match read_signed(at.part(line)) {
-        Signed::I(value) => GotSigned { value, faults },
-        Signed::NotI => GotSigned {
-            value: 0,
-            faults: faults.note(wrong(Sort::Signed, at)),
+    GotSigned {
+        value: got.value,
+        faults: faults.note(number_fault(line, Sort::Signed, at)),
+    }
+}
+
+pub fn fine_real(line: &[u8], at: Columns, default: f64) -> FineReal
+    ensures { λ r. ⌜ r ≡ specs.fineReal (now (line .entry)) at default ⌝ }
+{
+    if ends_before(line, at) {
+        return FineReal {
+            value: default,
+            fine: false,
+        };
+    }
+    match read_real(at.part(line)) {
+        Real::R(value) => FineReal { value, fine: true },
+        Real::NotR => FineReal {
+            value: default,
+            fine: false,
         },
     }
 }
@@ -93,18 +170,16 @@ pub fn signed(line: &[u8], at: Columns, faults: Faults) -> GotSigned
 pub fn real(line: &[u8], at: Columns, default: f64, faults: Faults) -> GotReal
     ensures { λ r. ⌜ r ≡ specs.gotReal (now (line .entry)) at default faults ⌝ }
 {
-    if ends_before(line, at) {
+    let got = fine_real(line, at, default);
+    if got.fine {
         return GotReal {
-            value: default,
-            faults: faults.note(short(at)),
+            value: got.value,
+            faults,
         };
     }
-    match read_real(at.part(line)) {
-        Real::R(value) => GotReal { value, faults },
-        Real::NotR => GotReal {
-            value: default,
-            faults: faults.note(wrong(Sort::Real, at)),
-        },
+    GotReal {
+        value: got.value,
+        faults: faults.note(number_fault(line, Sort::Real, at)),
     }
 }
 

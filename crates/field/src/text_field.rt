@@ -16,6 +16,18 @@ use number::trim::Span;
 use number::trim::kept_length;
 use number::trim::read_text;
 
+// A field's value, and whether the field is fine.
+pub struct FineText {
+    pub value: Text,
+    pub fine: bool,
+}
+
+pub struct FineCharacter {
+    pub value: Character,
+    pub fine: bool,
+}
+
+// A field's value beside the list with the field's fault, if it has one.
 pub struct GotText {
     pub value: Text,
     pub faults: Faults,
@@ -38,17 +50,28 @@ fn shifted(start: usize, part: &[u8]) -> Text
     Text::new(start + span.place, span.length)
 }
 
-pub fn text(line: &[u8], at: Columns, faults: Faults) -> GotText
-    ensures { λ r. ⌜ r ≡ specs.gotText (now (line .entry)) at faults ⌝ }
+pub fn fine_text(line: &[u8], at: Columns) -> FineText
+    ensures { λ r. ⌜ r ≡ specs.fineText (now (line .entry)) at ⌝ }
 {
     let value = shifted(at.start as usize, at.part(line));
     if ends_before(line, at) {
-        return GotText {
-            value,
-            faults: faults.note(short(at)),
-        };
+        return FineText { value, fine: false };
     }
-    GotText { value, faults }
+    FineText { value, fine: true }
+}
+
+pub fn text(line: &[u8], at: Columns, faults: Faults) -> GotText
+    ensures { λ r. ⌜ r ≡ specs.gotText (now (line .entry)) at faults ⌝ }
+{
+    let got = fine_text(line, at);
+    let value = got.value;
+    if got.fine {
+        return GotText { value, faults };
+    }
+    GotText {
+        value,
+        faults: faults.note(short(at)),
+    }
 }
 
 // The text of what the line reaches of the columns.
@@ -85,41 +108,69 @@ fn short_character(column: u16) -> Fault
     Fault::new(FaultKind::Short, column, 1)
 }
 
-pub fn character(line: &[u8], column: u16, faults: Faults) -> GotCharacter
-    ensures { λ r. ⌜ r ≡ specs.gotCharacter (now (line .entry)) column faults ⌝ }
+pub fn fine_character(line: &[u8], column: u16) -> FineCharacter
+    ensures { λ r. ⌜ r ≡ specs.fineCharacter (now (line .entry)) column ⌝ }
 {
     let at = column as usize;
     if line.len() <= at {
-        return GotCharacter {
+        return FineCharacter {
             value: Character::Unreached,
-            faults: faults.note(short_character(column)),
+            fine: false,
         };
     }
-    GotCharacter {
+    FineCharacter {
         value: Character::At(at),
-        faults,
+        fine: true,
+    }
+}
+
+pub fn character(line: &[u8], column: u16, faults: Faults) -> GotCharacter
+    ensures { λ r. ⌜ r ≡ specs.gotCharacter (now (line .entry)) column faults ⌝ }
+{
+    let got = fine_character(line, column);
+    let value = got.value;
+    if got.fine {
+        return GotCharacter { value, faults };
+    }
+    GotCharacter {
+        value,
+        faults: faults.note(short_character(column)),
     }
 }
 
 // A character whose blank means that it is absent.
-pub fn optional(line: &[u8], column: u16, faults: Faults) -> GotCharacter
-    ensures { λ r. ⌜ r ≡ specs.gotOptional (now (line .entry)) column faults ⌝ }
+pub fn fine_optional(line: &[u8], column: u16) -> FineCharacter
+    ensures { λ r. ⌜ r ≡ specs.fineOptional (now (line .entry)) column ⌝ }
 {
     let at = column as usize;
     if line.len() <= at {
-        return GotCharacter {
+        return FineCharacter {
             value: Character::Absent,
-            faults: faults.note(short_character(column)),
+            fine: false,
         };
     }
     if line[at] == 32 {
-        return GotCharacter {
+        return FineCharacter {
             value: Character::Absent,
-            faults,
+            fine: true,
         };
     }
-    GotCharacter {
+    FineCharacter {
         value: Character::At(at),
-        faults,
+        fine: true,
+    }
+}
+
+pub fn optional(line: &[u8], column: u16, faults: Faults) -> GotCharacter
+    ensures { λ r. ⌜ r ≡ specs.gotOptional (now (line .entry)) column faults ⌝ }
+{
+    let got = fine_optional(line, column);
+    let value = got.value;
+    if got.fine {
+        return GotCharacter { value, faults };
+    }
+    GotCharacter {
+        value,
+        faults: faults.note(short_character(column)),
     }
 }

@@ -1,14 +1,23 @@
 // ATOM, HETATM and ANISOU. The coordinates' faults come before those of what the kinds share, as lexer.rs reads them first.
+// Nearly every line of a file is an atom without a fault, so an atom is read without a list of faults first. Only if a field
+// isn't fine is it read again, with the list going through.
 ghost use mathlib.Core.Path.{_≡_};
 ghost use Rattle.records.specs.Atom as specs;
-ghost use Rattle.records.specs.Lexed.{alone, lineNoted, lexedBy};
+ghost use Rattle.records.specs.Lexed.{alone, lineFine, lineNoted, lexedBy};
 use crate::Lexed;
 use field::charge::charge;
+use field::charge::fine_charge;
 use field::number_field::factor;
+use field::number_field::fine_real;
+use field::number_field::fine_signed;
+use field::number_field::fine_unsigned;
 use field::number_field::real;
 use field::number_field::signed;
 use field::number_field::unsigned;
 use field::text_field::character;
+use field::text_field::fine_character;
+use field::text_field::fine_optional;
+use field::text_field::fine_text;
 use field::text_field::optional;
 use field::text_field::text;
 use lexitem::atom::Anisou;
@@ -19,6 +28,23 @@ use lexitem::atom::Position;
 use lexitem::fault::Faults;
 use lexitem::item::LexItem;
 
+// What was read, and whether all of its fields are fine.
+pub struct FineBasics {
+    pub value: Basics,
+    pub fine: bool,
+}
+
+pub struct FinePosition {
+    pub value: Position,
+    pub fine: bool,
+}
+
+pub struct FineAtom {
+    pub value: Atom,
+    pub fine: bool,
+}
+
+// What was read, beside the list with the faults of its fields.
 pub struct GotBasics {
     pub value: Basics,
     pub faults: Faults,
@@ -78,7 +104,8 @@ fn lex_position(line: &[u8], faults: Faults) -> GotPosition
     GotPosition { value, faults }
 }
 
-pub fn lex_atom(line: &[u8], hetero: bool) -> Lexed
+// An atom, with the list going through.
+fn lex_atom_noted(line: &[u8], hetero: bool) -> Lexed
     ensures { λ r. ⌜ r ≡ lexedBy (alone (now (line .entry))) specs.atomTable (LexItem.Atom (specs.atomOf hetero (now (line .entry)))) ⌝ }
 {
     let position = lex_position(line, Faults::none());
@@ -102,6 +129,91 @@ pub fn lex_atom(line: &[u8], hetero: bool) -> Lexed
         item: LexItem::Atom(atom),
         faults,
     }
+}
+
+fn quick_basics(line: &[u8]) -> FineBasics
+    ensures { λ r. ⌜ r ≡ record { value = specs.basicsOf (now (line .entry)); fine = lineFine (now (line .entry)) specs.basicsTable } ⌝ }
+{
+    let serial = fine_unsigned(line, Basics::SERIAL);
+    let name = fine_text(line, Basics::NAME);
+    let alternate = fine_optional(line, Basics::ALTERNATE);
+    let residue = fine_text(line, Basics::RESIDUE);
+    let chain = fine_character(line, Basics::CHAIN);
+    let number = fine_signed(line, Basics::NUMBER);
+    let insertion = fine_optional(line, Basics::INSERTION);
+    let segment = fine_text(line, Basics::SEGMENT);
+    let element = fine_text(line, Basics::ELEMENT);
+    let charge = fine_charge(line, Basics::CHARGE);
+    let location = alternate.value;
+    let of = chain.value;
+    let inserted = insertion.value;
+    let value = Basics::new(
+        serial.value,
+        name.value,
+        location,
+        residue.value,
+        of,
+        number.value,
+        inserted,
+        segment.value,
+        element.value,
+        charge.value,
+    );
+    let last = segment.fine & (element.fine & charge.fine);
+    let middle = chain.fine & (number.fine & (insertion.fine & last));
+    FineBasics {
+        value,
+        fine: serial.fine & (name.fine & (alternate.fine & (residue.fine & middle))),
+    }
+}
+
+fn quick_position(line: &[u8]) -> FinePosition
+    ensures { λ r. ⌜ r ≡ record { value = specs.positionOf (now (line .entry)); fine = lineFine (now (line .entry)) specs.positionTable } ⌝ }
+{
+    let x = fine_real(line, Position::X, 0.0);
+    let y = fine_real(line, Position::Y, 0.0);
+    let z = fine_real(line, Position::Z, 0.0);
+    FinePosition {
+        value: Position::new(x.value, y.value, z.value),
+        fine: x.fine & (y.fine & z.fine),
+    }
+}
+
+fn quick_atom(line: &[u8], hetero: bool) -> FineAtom
+    ensures { λ r. ⌜ r ≡ record { value = specs.atomOf hetero (now (line .entry)); fine = lineFine (now (line .entry)) specs.atomTable } ⌝ }
+{
+    let position = quick_position(line);
+    let occupancy = fine_real(line, Atom::OCCUPANCY, Atom::OCCUPANCY_DEFAULT);
+    let bfactor = fine_real(line, Atom::BFACTOR, 0.0);
+    let basics = quick_basics(line);
+    FineAtom {
+        value: Atom::new(
+            hetero,
+            basics.value,
+            position.value,
+            occupancy.value,
+            bfactor.value,
+        ),
+        fine: position.fine & (occupancy.fine & (bfactor.fine & basics.fine)),
+    }
+}
+
+// A line that reaches the element's columns may be fine throughout; the one test spares each field its own.
+pub fn lex_atom(line: &[u8], hetero: bool) -> Lexed
+    ensures { λ r. ⌜ r ≡ lexedBy (alone (now (line .entry))) specs.atomTable (LexItem.Atom (specs.atomOf hetero (now (line .entry)))) ⌝ }
+{
+    if line.len() < Basics::ELEMENT.end as usize {
+        return lex_atom_noted(line, hetero);
+    }
+    let quick = quick_atom(line, hetero);
+    if quick.fine {
+        let atom = quick.value;
+        return Lexed {
+            item: LexItem::Atom(atom),
+            faults: Faults::none(),
+        };
+    }
+    lex_atom_noted(line, hetero)
 }
 
 fn lex_factors(line: &[u8], faults: Faults) -> GotFactors

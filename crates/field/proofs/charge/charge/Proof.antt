@@ -1,70 +1,60 @@
--- `field::charge::charge` meets its contract: the part is both columns, or the line has no charge.
+-- `field::charge::charge` meets its contract: a fine charge notes nothing, and one that isn't stands in both columns and notes its one fault.
 -- Assumes nothing.
 use mathlib.Core.Path.{refl, sym, ap, _∙_}
 use native.Mathlib.Omega.{arith}
-use borrow.Author.Tests.{eq-eqb, ne-eqb}
 use lib.ListN.{length}
 use denote.Ref.{now}
-use Rattle.field.specs.Charge.{charged, chargeAt, chargeFaults}
-use Rattle.field.proofs.Laws.Fields.{two-columns}
+use Rattle.field.specs.Charge.{chargeFaults}
+use Rattle.field.proofs.Laws.Fields.{two-columns, charge-held}
+use Rattle.field.proofs.Laws.Fine.{fine-none, charge-one, charge-two}
 use borrow.Author.Needs.{needs}
 use Rattle.field.proofs.charge.charge.Statement.{statement}
 use Rattle.field.proofs.charge.charge.Tie as tie
 
+fine-charge-requires : tie.Need-fine-charge-requires
+fine-charge-requires c κs = search needs
+
+returns : tie.Need-returns
+returns c =
+    let a = c .before .before .before .before .args in
+    let got = c .before .before .fine-charge .ensures in
+    let e = rw got at (c .before .if1 .taken) in
+    rw (got, charge-held, fine-none (chargeFaults (a .line .now) (a .at)) e) refl
+
 part-requires : tie.Need-part-requires
 part-requires c κs = search needs
 
-returns : tie.Need-returns
-unfolding chargeAt chargeFaults charged
-returns c =
-    let pe = c .before .part .ensures in
-    rw (← pe, ne-eqb _ 2 (c .if1 .taken)) refl
-
-shared-slice-read-both-blank : tie.Need-shared-slice-read-both-blank
-shared-slice-read-both-blank c = search needs
-
-shared-slice-read-both-blank-2 : tie.Need-shared-slice-read-both-blank-2
-shared-slice-read-both-blank-2 c = search needs
-
-both-blank-requires : tie.Need-both-blank-requires
-both-blank-requires c κs = search needs
-
-returns-2 : tie.Need-returns-2
-unfolding chargeAt chargeFaults charged
-returns-2 c =
-    let pe = c .before .before .before .before .before .part .ensures in
-    rw (← pe, eq-eqb _ 2 (c .before .before .before .before .if1 .left), sym (c .before .both-blank .ensures) ∙ c .if2 .taken) refl
-
-shared-slice-read-read-charge : tie.Need-shared-slice-read-read-charge
-shared-slice-read-read-charge c = search needs
-
-shared-slice-read-read-charge-2 : tie.Need-shared-slice-read-read-charge-2
-shared-slice-read-read-charge-2 c = search needs
-
-read-charge-requires : tie.Need-read-charge-requires
-read-charge-requires c κs =
-    let a = c .before .before .before .before .before .before .before .before .before .args in
-    let w = two-columns (a .line .now) (a .at) (sym (ap length (c .before .before .before .before .before .before .before .part .ensures)) ∙ c .before .before .before .before .before .before .if1 .left) in
+shared-slice-read-charge-fault : tie.Need-shared-slice-read-charge-fault
+shared-slice-read-charge-fault c =
+    let a = c .before .before .before .before .before .args in
+    let e = rw (c .before .before .before .fine-charge .ensures) at (c .before .before .if1 .left) in
+    let n = ap length (c .before .part .ensures) ∙ charge-two (a .line .now) (a .at) e in
     omega arith
 
-returns-3 : tie.Need-returns-3
-unfolding chargeAt chargeFaults charged
-returns-3 c =
-    let pe = c .before .before .before .before .before .before .before .before .part .ensures in
-    c .read-charge .ensures
-    ∙ rw (← pe, eq-eqb _ 2 (c .before .before .before .before .before .before .before .if1 .left), sym (c .before .before .before .before .both-blank .ensures) ∙ c .before .before .before .if2 .left) refl
+charge-fault-requires : tie.Need-charge-fault-requires
+charge-fault-requires c κs =
+    let a = c .before .before .before .before .before .args in
+    let e = rw (c .before .before .before .fine-charge .ensures) at (c .before .before .if1 .left) in
+    let w = two-columns (a .line .now) (a .at) (charge-two (a .line .now) (a .at) e) in
+    omega arith
+
+note-requires : tie.Need-note-requires
+note-requires c κs = search needs
+
+returns-2 : tie.Need-returns-2
+returns-2 c =
+    let got = c .before .before .before .before .before .before .fine-charge .ensures in
+    let e = rw got at (c .before .before .before .before .before .if1 .left) in
+    rw (c .before .note .ensures, c .before .before .charge-fault .ensures, c .before .before .before .before .part .ensures, got, charge-held, charge-one _ _ e) refl
 
 pub charge-spec : {M : Type 1} → statement M
 charge-spec =
     tie.close
     (tie.spec
-    part-requires
+    fine-charge-requires
     returns
-    shared-slice-read-both-blank
-    shared-slice-read-both-blank-2
-    both-blank-requires
-    returns-2
-    shared-slice-read-read-charge
-    shared-slice-read-read-charge-2
-    read-charge-requires
-    returns-3)
+    part-requires
+    shared-slice-read-charge-fault
+    charge-fault-requires
+    note-requires
+    returns-2)

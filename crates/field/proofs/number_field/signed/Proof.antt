@@ -1,82 +1,37 @@
--- `field::number_field::signed` meets its contract: the tests are those of `numberFaults`, and a number that was read fits.
+-- `field::number_field::signed` meets its contract: a fine field notes nothing, and one that isn't notes its one fault.
 -- Assumes nothing.
-use mathlib.Core.Path.{refl, sym, ap, _∙_}
+use mathlib.Core.Path.{refl}
 use denote.Ref.{now}
-use mir.Syntax.{w64}
-use mir.Facts.{toZ-ofZ}
-use Rattle.field.specs.Number.{numberFaults, signedAt}
-use Rattle.field.proofs.Laws.Fields.{part-short, signed-none}
-use Rattle.number.specs.Whole.{signedOf}
-use Rattle.lexitem.specs.Columns.{partOf}
-use Rattle.number.proofs.Laws.Width.{signed-fits}
+use Rattle.field.specs.Number.{signedFaults}
+use Rattle.field.proofs.Laws.Fields.{signed-held}
+use Rattle.field.proofs.Laws.Fine.{fine-none, number-one}
 use borrow.Author.Needs.{needs}
 use Rattle.field.proofs.number_field.signed.Statement.{statement}
 use Rattle.field.proofs.number_field.signed.Tie as tie
 
-ends-before-requires : tie.Need-ends-before-requires
-ends-before-requires c κs = search needs
+fine-signed-requires : tie.Need-fine-signed-requires
+fine-signed-requires c κs = search needs
 
-short-requires : tie.Need-short-requires
-short-requires c κs = search needs
+returns : tie.Need-returns
+returns c =
+    let a = c .before .before .before .before .args in
+    let got = c .before .before .fine-signed .ensures in
+    let e = rw got at (c .before .if1 .taken) in
+    rw (got, signed-held, fine-none (signedFaults (a .line .now) (a .at)) e) refl
+
+number-fault-requires : tie.Need-number-fault-requires
+number-fault-requires c κs = search needs
 
 note-requires : tie.Need-note-requires
 note-requires c κs = search needs
 
-returns : tie.Need-returns
-unfolding signedAt numberFaults
-returns c =
-    let l = c .before .before .before .before .before .args .line .now in
-    let at = c .before .before .before .before .before .args .at in
-    let e = sym (c .before .before .before .ends-before .ensures) ∙ c .before .before .if1 .taken in
-    rw (c .note .ensures, c .before .short .ensures, part-short l at e, signed-none, e) refl
-
-part-requires : tie.Need-part-requires
-part-requires c κs = search needs
-
-read-signed-requires : tie.Need-read-signed-requires
-read-signed-requires c κs = search needs
-
-enum-known-value : tie.Need-enum-known-value
-enum-known-value c = search needs
-
-enum-told : tie.Need-enum-told
-enum-told c = search needs
-
-wrong-requires : tie.Need-wrong-requires
-wrong-requires c κs = search needs
-
-note-requires-2 : tie.Need-note-requires-2
-note-requires-2 c κs = search needs
-
 returns-2 : tie.Need-returns-2
-unfolding signedAt numberFaults
 returns-2 c =
-    let l = c .before .before .before .before .before .before .before .before .args .line .now in
-    let at = c .before .before .before .before .before .before .before .before .args .at in
-    let e = sym (c .before .before .before .before .before .before .ends-before .ensures) ∙ c .before .before .before .before .before .if1 .left in
-    let said = sym (c .before .before .before .read-signed .ensures ∙ ap signedOf (c .before .before .before .before .part .ensures)) ∙ c .before .value .given .1 in
-    rw (toZ-ofZ {w = w64} (record { sfits = signed-fits (partOf l at) said }), said, e) refl
-
-returns-3 : tie.Need-returns-3
-unfolding signedAt numberFaults
-returns-3 c =
-    let e = sym (c .before .before .before .before .before .before .before .ends-before .ensures) ∙ c .before .before .before .before .before .before .if1 .left in
-    let said = sym (c .before .before .before .before .read-signed .ensures ∙ ap signedOf (c .before .before .before .before .before .part .ensures)) ∙ c .before .before .enum-told .given .1 in
-    rw (c .note2 .ensures, c .before .wrong .ensures, said, e) refl
+    let got = c .before .before .before .before .fine-signed .ensures in
+    let e = rw got at (c .before .before .before .if1 .left) in
+    rw (c .before .note .ensures, c .before .before .number-fault .ensures, got, signed-held, number-one _ _ _ _ e) refl
 
 pub signed-spec : {M : Type 1} → statement M
 signed-spec =
     tie.close
-    (tie.spec
-    ends-before-requires
-    short-requires
-    note-requires
-    returns
-    part-requires
-    read-signed-requires
-    enum-known-value
-    enum-told
-    wrong-requires
-    note-requires-2
-    returns-2
-    returns-3)
+    (tie.spec fine-signed-requires returns number-fault-requires note-requires returns-2)

@@ -1,13 +1,22 @@
--- `field::text_field::character` meets its contract.
+-- `field::text_field::character` meets its contract: a fine field notes nothing, and one that isn't notes its one fault.
 -- Assumes nothing.
 use mathlib.Core.Path.{refl}
-use borrow.Author.Tests.{lt-ltb, le-ltb}
-use lib.ListN.{length}
 use denote.Ref.{now}
-use Rattle.field.specs.Text.{characterAt, characterFaults}
+use Rattle.field.specs.Text.{characterFaults}
+use Rattle.field.proofs.Laws.Fine.{fine-none, character-one}
 use borrow.Author.Needs.{needs}
 use Rattle.field.proofs.text_field.character.Statement.{statement}
 use Rattle.field.proofs.text_field.character.Tie as tie
+
+fine-character-requires : tie.Need-fine-character-requires
+fine-character-requires c κs = search needs
+
+returns : tie.Need-returns
+returns c =
+    let a = c .before .before .before .args in
+    let got = c .before .fine-character .ensures in
+    let e = rw got at (c .if1 .taken) in
+    rw (got, fine-none (characterFaults (a .line .now) (a .column)) e) refl
 
 short-character-requires : tie.Need-short-character-requires
 short-character-requires c κs = search needs
@@ -15,19 +24,13 @@ short-character-requires c κs = search needs
 note-requires : tie.Need-note-requires
 note-requires c κs = search needs
 
-returns : tie.Need-returns
-unfolding characterAt characterFaults
-returns c =
-    let l = c .before .before .before .before .args .line .now in
-    let k = c .before .before .before .before .args .column in
-    rw (c .note .ensures, c .before .short-character .ensures, le-ltb k (length l) (c .before .before .if1 .taken)) refl
-
 returns-2 : tie.Need-returns-2
-unfolding characterAt characterFaults
 returns-2 c =
-    let l = c .before .before .args .line .now in
-    let k = c .before .before .args .column in
-    rw (lt-ltb k (length l) (c .if1 .left)) refl
+    let got = c .before .before .before .fine-character .ensures in
+    let e = rw got at (c .before .before .if1 .left) in
+    rw (c .note .ensures, c .before .short-character .ensures, got, character-one _ _ e) refl
 
 pub character-spec : {M : Type 1} → statement M
-character-spec = tie.close (tie.spec short-character-requires note-requires returns returns-2)
+character-spec =
+    tie.close
+    (tie.spec fine-character-requires returns short-character-requires note-requires returns-2)

@@ -1,13 +1,22 @@
--- `field::text_field::optional` meets its contract.
+-- `field::text_field::optional` meets its contract: a fine field notes nothing, and one that isn't notes its one fault.
 -- Assumes nothing.
 use mathlib.Core.Path.{refl}
-use borrow.Author.Tests.{lt-ltb, le-ltb, eq-eqb, ne-eqb}
-use lib.ListN.{length, getD}
 use denote.Ref.{now}
-use Rattle.field.specs.Text.{optionalAt, characterFaults}
+use Rattle.field.specs.Text.{characterFaults}
+use Rattle.field.proofs.Laws.Fine.{fine-none, character-one}
 use borrow.Author.Needs.{needs}
 use Rattle.field.proofs.text_field.optional.Statement.{statement}
 use Rattle.field.proofs.text_field.optional.Tie as tie
+
+fine-optional-requires : tie.Need-fine-optional-requires
+fine-optional-requires c κs = search needs
+
+returns : tie.Need-returns
+returns c =
+    let a = c .before .before .before .args in
+    let got = c .before .fine-optional .ensures in
+    let e = rw got at (c .if1 .taken) in
+    rw (got, fine-none (characterFaults (a .line .now) (a .column)) e) refl
 
 short-character-requires : tie.Need-short-character-requires
 short-character-requires c κs = search needs
@@ -15,37 +24,13 @@ short-character-requires c κs = search needs
 note-requires : tie.Need-note-requires
 note-requires c κs = search needs
 
-returns : tie.Need-returns
-unfolding optionalAt characterFaults
-returns c =
-    let l = c .before .before .before .before .args .line .now in
-    let k = c .before .before .before .before .args .column in
-    rw (c .note .ensures, c .before .short-character .ensures, le-ltb k (length l) (c .before .before .if1 .taken)) refl
-
-shared-slice-read-if2 : tie.Need-shared-slice-read-if2
-shared-slice-read-if2 c = search needs
-
 returns-2 : tie.Need-returns-2
-unfolding optionalAt characterFaults
 returns-2 c =
-    let l = c .before .before .before .before .args .line .now in
-    let k = c .before .before .before .before .args .column in
-    rw (lt-ltb k (length l) (c .before .before .if1 .left), eq-eqb (getD l k 0) 32 (c .if2 .taken)) refl
-
-returns-3 : tie.Need-returns-3
-unfolding optionalAt characterFaults
-returns-3 c =
-    let l = c .before .before .before .before .args .line .now in
-    let k = c .before .before .before .before .args .column in
-    rw (lt-ltb k (length l) (c .before .before .if1 .left), ne-eqb (getD l k 0) 32 (c .if2 .left)) refl
+    let got = c .before .before .before .fine-optional .ensures in
+    let e = rw got at (c .before .before .if1 .left) in
+    rw (c .note .ensures, c .before .short-character .ensures, got, character-one _ _ e) refl
 
 pub optional-spec : {M : Type 1} → statement M
 optional-spec =
     tie.close
-    (tie.spec
-    short-character-requires
-    note-requires
-    returns
-    shared-slice-read-if2
-    returns-2
-    returns-3)
+    (tie.spec fine-optional-requires returns short-character-requires note-requires returns-2)

@@ -1,48 +1,51 @@
--- `records::atom::lex_atom` meets its contract: each value is its reader's, and the faults go on in the order of the table.
+-- `records::atom::lex_atom` meets its contract: where every field of the table is fine, the table notes nothing.
 -- Assumes nothing.
-use lib.Ieee.{ofBits}
+use mathlib.Core.Path.{refl, sym, ap, _∙_}
+use Rattle.lexitem.specs.Faults.{noFaults}
+use Rattle.field.proofs.Laws.Fine.{all-fine}
+use Rattle.records.specs.Atom.{atomTable}
+use Rattle.records.specs.Lexed.{alone}
 use borrow.Author.Needs.{needs}
 use Rattle.records.proofs.atom.lex_atom.Statement.{statement}
 use Rattle.records.proofs.atom.lex_atom.Tie as tie
 
+cast-if1 : tie.Need-cast-if1
+cast-if1 c = search needs
+
+lex-atom-noted-requires : tie.Need-lex-atom-noted-requires
+lex-atom-noted-requires c κs = search needs
+
+returns : tie.Need-returns
+returns c = search needs
+
+quick-atom-requires : tie.Need-quick-atom-requires
+quick-atom-requires c κs = search needs
+
 none-requires : tie.Need-none-requires
 none-requires c κs = search needs
 
-lex-position-requires : tie.Need-lex-position-requires
-lex-position-requires c κs = search needs
+returns-2 : tie.Need-returns-2
+returns-2 c =
+    let l = c .before .before .before .before .before .before .before .args .line .now in
+    let got = c .before .before .before .quick-atom .ensures in
+    let e = rw got at (c .before .before .if2 .taken) in
+    rw (c .none .ensures, got, all-fine (alone l) atomTable noFaults e) refl
 
-real-requires : tie.Need-real-requires
-real-requires c κs = search needs
+lex-atom-noted-requires-2 : tie.Need-lex-atom-noted-requires-2
+lex-atom-noted-requires-2 c κs = search needs
 
-real-requires-2 : tie.Need-real-requires-2
-real-requires-2 c κs = search needs
-
-lex-atom-basics-requires : tie.Need-lex-atom-basics-requires
-lex-atom-basics-requires c κs = search needs
-
-new-requires : tie.Need-new-requires
-new-requires c κs = search needs
-
-returns : tie.Need-returns
-unfolding ofBits
-returns c =
-    simp (
-      c .before .before .before .before .before .before .none .ensures,
-      c .before .before .before .before .before .lex-position .ensures,
-      c .before .before .before .before .real .ensures,
-      c .before .before .before .real2 .ensures,
-      c .before .before .lex-atom-basics .ensures,
-      c .before .new .ensures,
-    )
+returns-3 : tie.Need-returns-3
+returns-3 c = search needs
 
 pub lex-atom-spec : {M : Type 1} → statement M
 lex-atom-spec =
     tie.close
     (tie.spec
+    cast-if1
+    lex-atom-noted-requires
+    returns
+    quick-atom-requires
     none-requires
-    lex-position-requires
-    real-requires
-    real-requires-2
-    lex-atom-basics-requires
-    new-requires
-    returns)
+    returns-2
+    lex-atom-noted-requires-2
+    returns-3)

@@ -1,0 +1,107 @@
+-- Laws of fields that are fine and of those that aren't.
+--     fine-none                               a fine field has no fault
+--     number-one, text-one, character-one     one that isn't has one, the defined one
+--     charge-fine                             a charge is fine if it is a digit and a sign
+--     charge-one, charge-two                  a charge that isn't has one fault, and both its columns are there
+--     all-fine                                a table of fine fields notes nothing
+-- Assumes nothing.
+use Prim.Native.Nat.{ℕ, _+_, _-_}
+use mathlib.Core.Path.{_≡_, refl, sym, _∙_}
+use mathlib.Core.Bool.{Bool, true, false, cond, not, _&&_}
+use mathlib.Core.List.{List, [], _∷_}
+use borrow.Author.Tests.{eqb-true}
+use lib.ListN.{length, getD}
+use lib.Dec.{ltb, eqb}
+use Rattle.number.specs.Whole.{digit}
+use Rattle.lexitem.specs.Columns.{partOf}
+use Rattle.lexitem.specs.declared.columns.Columns.{Columns}
+use Rattle.lexitem.specs.declared.fault.Fault.{Fault}
+use Rattle.lexitem.specs.declared.fault.Faults.{Faults}
+use Rattle.lexitem.specs.declared.fault.Sort.{Sort}
+use Rattle.lexitem.specs.declared.fault.FaultKind.the-variants.{NoDigit, NoSign}
+use Rattle.field.specs.Number.{isFine, shortAt, wrongAt, numberFault, numberFaults}
+use Rattle.field.specs.Text.{textFaults, characterFaults, unreached}
+use Rattle.field.specs.Charge.{bothBlank, isSign, charged, chargeFault, chargeFaultsOf, chargeFaults}
+use Rattle.field.specs.Table.{Given, Entry, faultsBy, tableNoted, allFine}
+
+pub fine-none : (fs : List Fault) → isFine fs ≡ true → fs ≡ []
+fine-none [] e = refl
+fine-none (f ∷ t) e = cc
+
+pub number-one : (l : List ℕ) (at : Columns) (sort : Sort) (ok : Bool)
+    → isFine (numberFaults l at sort ok) ≡ false → numberFaults l at sort ok ≡ numberFault l at sort ∷ []
+unfolding numberFaults
+number-one l at sort ok e = go (ltb (length l) (at .end)) ok e
+  where
+    go : (b k : Bool) → isFine (cond b (shortAt at ∷ []) (cond k [] (wrongAt sort at ∷ []))) ≡ false
+        → cond b (shortAt at ∷ []) (cond k [] (wrongAt sort at ∷ [])) ≡ cond b (shortAt at) (wrongAt sort at) ∷ []
+    go true k e = refl
+    go false true e = cc
+    go false false e = refl
+
+pub text-one : (l : List ℕ) (at : Columns) → isFine (textFaults l at) ≡ false → textFaults l at ≡ shortAt at ∷ []
+unfolding textFaults
+text-one l at e = go (ltb (length l) (at .end)) e
+  where
+    go : (b : Bool) → isFine (cond b (shortAt at ∷ []) []) ≡ false → cond b (shortAt at ∷ []) [] ≡ shortAt at ∷ []
+    go true e = refl
+    go false e = cc
+
+pub character-one : (l : List ℕ) (column : ℕ) → isFine (characterFaults l column) ≡ false → characterFaults l column ≡ unreached column ∷ []
+unfolding characterFaults
+character-one l column e = go (ltb column (length l)) e
+  where
+    go : (b : Bool) → isFine (cond b [] (unreached column ∷ [])) ≡ false → cond b [] (unreached column ∷ []) ≡ unreached column ∷ []
+    go true e = cc
+    go false e = refl
+
+abbrev noSign : ℕ → Fault
+noSign start = record { kind = NoSign; place = start + 1; length = 1 }
+
+abbrev noDigit : ℕ → Fault
+noDigit start = record { kind = NoDigit; place = start; length = 1 }
+
+pub charge-fine : (d s start : ℕ) → isFine (chargeFaultsOf d s start) ≡ digit d && isSign s
+unfolding chargeFaultsOf
+charge-fine d s start = go (digit d) (isSign s)
+  where
+    go : (a b : Bool) → isFine (cond a (cond b [] (noSign start ∷ [])) (noDigit start ∷ [])) ≡ a && b
+    go true true = refl
+    go true false = refl
+    go false b = refl
+
+pub charge-one : (l : List ℕ) (at : Columns)
+    → isFine (chargeFaults l at) ≡ false → chargeFaults l at ≡ chargeFault (getD (partOf l at) 0 0) (at .start) ∷ []
+unfolding chargeFaults chargeFaultsOf
+charge-one l at e =
+    go (charged (partOf l at)) (digit (getD (partOf l at) 0 0)) (isSign (getD (partOf l at) 1 0)) e
+  where
+    go : (x a b : Bool) → isFine (cond x (cond a (cond b [] (noSign (at .start) ∷ [])) (noDigit (at .start) ∷ [])) []) ≡ false
+        → cond x (cond a (cond b [] (noSign (at .start) ∷ [])) (noDigit (at .start) ∷ [])) [] ≡ cond a (noSign (at .start)) (noDigit (at .start)) ∷ []
+    go true true true e = cc
+    go true true false e = refl
+    go true false b e = refl
+    go false a b e = cc
+
+pub charge-two : (l : List ℕ) (at : Columns) → isFine (chargeFaults l at) ≡ false → length (partOf l at) ≡ 2
+unfolding chargeFaults charged
+charge-two l at e = eqb-true (length (partOf l at)) 2 (go (eqb (length (partOf l at)) 2) (bothBlank (getD (partOf l at) 0 0) (getD (partOf l at) 1 0)) e)
+  where
+    go : (a b : Bool)
+        → isFine (cond (a && not b) (chargeFaultsOf (getD (partOf l at) 0 0) (getD (partOf l at) 1 0) (at .start)) []) ≡ false → a ≡ true
+    go true b e = refl
+    go false b e = cc
+
+and-left : (a b : Bool) → a && b ≡ true → a ≡ true
+and-left true b e = refl
+and-left false b e = e
+
+and-right : (a b : Bool) → a && b ≡ true → b ≡ true
+and-right true b e = e
+and-right false b e = cc
+
+pub all-fine : (g : Given) (es : List Entry) (fs : Faults) → allFine g es ≡ true → tableNoted g es fs ≡ fs
+all-fine g [] fs e = refl
+all-fine g (h ∷ es) fs e =
+    rw (fine-none (faultsBy g h) (and-left (isFine (faultsBy g h)) (allFine g es) e))
+    (all-fine g es fs (and-right (isFine (faultsBy g h)) (allFine g es) e))
