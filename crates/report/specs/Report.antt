@@ -1,8 +1,17 @@
--- "The program then prints `record=REFUSED`, `line`, `refusal=number,place,length`." Every row ends with LF.
+-- "The program prints one listing a line. The listing entry hands a line's refusal back with its output untouched; the program then prints
+-- `record=REFUSED`, `line`, `refusal=number,place,length`." Every row ends with LF.
 use Prim.Native.Nat.{ℕ}
+use mathlib.Core.Bool.{cond}
 use mathlib.Core.List.{List, _++_}
+use lib.ListN.{length}
+use lib.Dec.{leb}
 use Rattle.kind.specs.Kind.{bytes}
+use Rattle.lexer.specs.Lexed.{lexed}
+use Rattle.lexer.specs.Refusals.{Input}
+use Rattle.lexitem.specs.declared.answer.Outcome.{Outcome}
+use Rattle.lexitem.specs.declared.answer.Outcome.the-variants.{Accepted, Refused}
 use Rattle.lexitem.specs.declared.answer.Refusal.{Refusal}
+use Rattle.listing.specs.Listed.{listingBy}
 use Rattle.page.specs.Numerals.{decimal}
 
 -- the rows of a refusal
@@ -11,3 +20,17 @@ refusedRows number r =
     bytes "record=REFUSED\nline=" ++ decimal number
     ++ bytes "\nrefusal=" ++ decimal (r .number) ++ bytes "," ++ decimal (r .place) ++ bytes "," ++ decimal (r .length)
     ++ bytes "\n"
+
+-- the refusal of a line whose listing needs more room than there is
+abbrev pub tooLong : ℕ → Refusal
+tooLong needed = record { number = 8; place = 0; length = needed }
+
+-- what is printed for a line that has an outcome, where there is so much room
+abbrev pub reportBy : ℕ → Input → Outcome → List ℕ
+reportBy room i (Accepted item) =
+    cond (leb (length (listingBy i item)) room) (listingBy i item) (refusedRows (i .number) (tooLong (length (listingBy i item))))
+reportBy room i (Refused r) = refusedRows (i .number) r
+
+-- what is printed for a line, where its listing has so much room
+unfoldable pub reportOf : ℕ → Input → List ℕ
+reportOf room i = reportBy room i (lexed i .outcome)

@@ -1,8 +1,12 @@
-// What is printed for a line that was refused.
+// What is printed for a line: its listing, or the rows of its refusal.
 ghost use mathlib.Core.Path.{_≡_};
+ghost use lib.ListN.{length};
 ghost use Rattle.page.specs.Page.{page, put};
-ghost use Rattle.report.specs.Report.{refusedRows};
+ghost use Rattle.report.specs.Report.{refusedRows, reportOf};
+use lexitem::answer::Options;
 use lexitem::answer::Refusal;
+use listing::Listed;
+use listing::list_line;
 use page::put_bytes;
 use page::put_unsigned;
 
@@ -19,4 +23,20 @@ pub fn put_refused(out: &mut [u8], at: usize, number: usize, refusal: Refusal) -
     let at = put_bytes(out, at, b",");
     let at = put_unsigned(out, at, refusal.length as u64);
     put_bytes(out, at, b"\n")
+}
+
+// A line's listing at the front of lent bytes, or the rows of its refusal. A line whose listing has no room there is refused for that.
+pub fn put_report(
+    line: &[u8],
+    number: usize,
+    options: Options,
+    remarks: &[u8],
+    out: &mut [u8],
+) -> usize
+    ensures { λ r. ⌜ page (now (out .exit)) r ≡ put (page (now (out .entry)) 0) (reportOf (length (now (out .entry))) (record { line = now (line .entry); number = number; options = options; remarks = now (remarks .entry) })) ⌝ }
+{
+    match list_line(line, number, options, remarks, out) {
+        Listed::Refused(refusal) => put_refused(out, 0, number, refusal),
+        Listed::Written(n) => n,
+    }
 }
