@@ -1,40 +1,11 @@
 // Lists the lines of its file `stdin`. A line that begins with `/` stands for its rest cut at every length from 0 to 81. The
 // file `stdout` was worked out apart from this program.
 ghost use Prim.Native.Nat.{_+_, _≤_};
-use lexitem::answer::Options;
 use libc::STDIN_FILENO;
-use libc::STDOUT_FILENO;
-use listing::Listed;
-use listing::list_line;
-use report::put_refused;
+use stream::output::print_line;
 use walker::lines::Step;
 use walker::lines::line;
 use walker::step;
-
-fn put_line(out: &mut [u8], text: &[u8], number: usize) -> usize {
-    let remarks = [1u8; 1000];
-    match list_line(
-        text,
-        number,
-        Options {
-            atoms: false,
-            loose: false,
-        },
-        &remarks,
-        out,
-    ) {
-        Listed::Refused(refusal) => put_refused(out, 0, number, refusal),
-        Listed::Written(n) => n,
-    }
-}
-
-fn print_line(text: &[u8], number: usize) {
-    let mut space = [0u8; 8192];
-    let n = put_line(&mut space, text, number);
-    if n <= 8192 {
-        io::write_all(STDOUT_FILENO, &space[..n]);
-    }
-}
 
 // Every cut of a line, the first having the number, and the number behind the last one's.
 fn print_cuts(text: &[u8], number: usize) -> usize
