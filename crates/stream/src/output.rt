@@ -2,6 +2,7 @@
 ghost use mathlib.Core.Path.{_≡_};
 ghost use Prim.Native.Nat.{_≤_};
 ghost use lib.ListN.{length};
+ghost use Rattle.listing.specs.Listing.{longest};
 ghost use Rattle.page.specs.Page.{page, put};
 ghost use Rattle.report.specs.Report.{reportOf};
 ghost use Rattle.stream.specs.Listed.{inputOf};
@@ -36,11 +37,20 @@ pub fn put_line(text: &[u8], number: usize, out: &mut [u8]) -> usize
     put_report(text, number, options, &remarks, out)
 }
 
-// Prints a line's report. The longest has room.
+// A line's report, in a space where the longest has room.
+fn report_in<'a>(text: &[u8], number: usize, space: &'a mut [u8]) -> &'a [u8]
+    requires { ⌜ length (now space) ≡ longest ⌝ }
+    ensures { λ r. ⌜ now r ≡ reportOf longest (inputOf number (now (text .entry))) ⌝ }
+{
+    let n = put_line(text, number, space);
+    let whole = &space[..];
+    &whole[..n]
+}
+
+// Prints a line's report.
 pub fn print_line(text: &[u8], number: usize) -> bool {
     let mut space = [0u8; 4096];
-    let n = put_line(text, number, &mut space);
-    print(&space[..n])
+    print(report_in(text, number, &mut space))
 }
 
 // Prints the report of each line of a file, the first being line 1. There are no more lines than bytes.

@@ -2,11 +2,11 @@
 --     refused-most      the rows of a refusal have at most 112 bytes
 --     report-whole      in 4,096 bytes a line's report is its listing, or the rows of its own refusal
 --     report-room       and has room there
---     report-count      so what is counted when it is put there lies within them
---     report-front      and is the report
+--     report-front      so what was put on 4,096 lent bytes is the report
+--     report-size       and has as many bytes as were counted
 -- Assumes nothing.
 use Prim.Native.Nat.{ℕ, _≤_}
-use mathlib.Core.Path.{_≡_, refl, ap, _∙_}
+use mathlib.Core.Path.{_≡_, refl, sym, ap, _∙_}
 use mathlib.Core.List.{List}
 use native.Mathlib.Omega.{arith}
 use borrow.Author.Tests.{le-leb}
@@ -64,12 +64,12 @@ module _ (i : Input) (before after : List ℕ) (n : ℕ) (many : length before �
       let f = rw many at e in
       ap (λ (p : Page). p .at) f ∙ put-count before (reportOf longest i) (omega arith)
 
-  pub report-count : n ≤ longest
-  report-count = let room = report-room i in let c = counted in omega arith
-
   pub report-front : take n after ≡ reportOf longest i
   report-front =
       let room = report-room i in
       let f = rw many at e in
       let bytes = ap (λ (p : Page). p .bytes) f ∙ put-front before (reportOf longest i) (omega arith) (omega arith) in
       rw (counted, bytes) (take-at _ _ _ refl)
+
+  pub report-size : n ≡ length (take n after)
+  report-size = counted ∙ ap length (sym report-front)
