@@ -2,7 +2,7 @@
 // file `stdout` was worked out apart from this program.
 ghost use Prim.Native.Nat.{_+_, _≤_};
 use libc::STDIN_FILENO;
-use stream::output::print_line;
+use stream::print_line;
 use walker::lines::Step;
 use walker::lines::line;
 use walker::step;

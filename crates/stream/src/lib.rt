@@ -3,8 +3,10 @@ use crate::input::Got;
 use crate::input::read_all;
 use crate::output::print_file;
 
-pub mod input;
-pub mod output;
+mod input;
+mod output;
+
+pub use crate::output::print_line;
 
 // Lists standard input, or says on standard error why it can't. The space has one byte more than a file may have, so that a longer
 // input shows.

@@ -14,7 +14,7 @@ use walker::lines::line;
 use walker::step;
 
 // The longest file that is listed.
-pub const MOST: usize = 65536;
+const MOST: usize = 65536;
 
 // Writes bytes, or says why it can't, and answers whether they were written.
 fn print(text: &[u8]) -> bool {
@@ -26,7 +26,7 @@ fn print(text: &[u8]) -> bool {
 }
 
 // A line's report at the front of lent bytes.
-pub fn put_line(text: &[u8], number: usize, out: &mut [u8]) -> usize
+fn put_line(text: &[u8], number: usize, out: &mut [u8]) -> usize
     ensures { λ r. ⌜ page (now (out .exit)) r ≡ put (page (now (out .entry)) 0) (reportOf (length (now (out .entry))) (inputOf number (now (text .entry)))) ⌝ }
 {
     let options = Options {
