@@ -1,22 +1,77 @@
-# Needs bash and `rt`, the Rattle toolchain, on PATH.
+# Needs bash and `rt`, the Rattle toolchain, on PATH. A C compiler, valgrind, pkg-config and rustc serve the tests that want them.
 SHELL := /bin/bash
 .SHELLFLAGS := -eu -o pipefail -c
 
+PREFIX ?= /usr/local
+FILE ?= examples/zinc.pdb
+
+program := target/bin/pdblist
+library := target/staticlib/libsaltighedda.a
+sources := crates.txt $(shell find crates -type f)
+
 .NOTPARALLEL:
-.PHONY: help test format oracle
+.PHONY: help list test format contracts hosts compare oracle differential bench install
 
 help:
-	@echo 'make test     everything that is checked: the layout, then every proof, must-fail edit and test program'
-	@echo 'make format   the layout of the sources alone'
-	@echo 'make oracle   builds the Rust as an oracle and runs its own tests (needs rustc, see differential/README.md)'
+	@echo 'make list FILE=..        lists the lines of a PDB file, and what could not be read of them'
+	@echo 'make test                everything that is checked: proofs, must-fail edits, test programs, C hosts, a short differential run'
+	@echo 'make install PREFIX=..   the program, the C header and the static library, with a file for pkg-config'
+	@echo 'make differential        ten million lines, compared with the Rust (needs rustc, see differential/README.md)'
+	@echo 'make bench               how quick it is beside the Rust and plain C (needs rustc and cc, see docs/SPEED.md)'
+	@echo 'make format              the layout of the sources alone'
+	@echo 'make oracle              builds the Rust as an oracle and runs its own tests'
 
-# The proofs come last, so that the last line printed is their own count of what passed and what failed.
-test: format
-	@rt ci
+list: $(program)
+	@$(program) < '$(FILE)'
+
+# Says nothing but what went wrong. A program is built once it is proved, and so is the library.
+define quietly
+	@mkdir -p $(@D) target/make; \
+	echo "$@ is being proved and built; from nothing that takes minutes" >&2; \
+	$(1) > target/make/$(@F).log 2>&1 || { cat target/make/$(@F).log >&2; exit 1; }; \
+	touch $@
+endef
+
+$(program): $(sources)
+	$(call quietly,rt check pdblist)
+
+$(library): $(sources)
+	$(call quietly,rt staticlib saltighedda)
+
+# The rest is tried once the proofs hold. Their own count of what passed and what failed is the last line printed.
+test: format contracts
+	@log=$$(mktemp); trap 'rm -f "$$log"' EXIT; \
+	rt ci | tee "$$log"; \
+	$(MAKE) --no-print-directory hosts compare; \
+	tail -n 1 "$$log"
 
 format:
 	@rt fmt --check
 
+contracts:
+	@tests/contracts.sh
+
+hosts: $(program) $(library)
+	@tests/pdblist.sh
+	@tests/c.sh
+
+compare: $(library)
+	@differential/short.sh
+
 oracle:
 	@differential/build.sh --test
 	@differential/build.sh --without-port
+
+differential: $(library)
+	@differential/build.sh
+	@target/differential/differential --file examples/zinc.pdb
+
+bench:
+	@bench/run.sh
+
+install: $(program) $(library)
+	@install -d '$(DESTDIR)$(PREFIX)/bin' '$(DESTDIR)$(PREFIX)/include' '$(DESTDIR)$(PREFIX)/lib/pkgconfig'
+	@install -m 755 $(program) '$(DESTDIR)$(PREFIX)/bin/pdblist'
+	@install -m 644 include/saltighedda.h '$(DESTDIR)$(PREFIX)/include/saltighedda.h'
+	@install -m 644 $(library) '$(DESTDIR)$(PREFIX)/lib/libsaltighedda.a'
+	@sed 's|@PREFIX@|$(PREFIX)|' saltighedda.pc.in > '$(DESTDIR)$(PREFIX)/lib/pkgconfig/saltighedda.pc'

@@ -1,11 +1,11 @@
 // What the program `pdblist` does: it reads standard input, all of it, and prints the report of each line.
 use crate::input::Got;
 use crate::input::read_all;
-use crate::output::print_file;
 
 mod input;
 mod output;
 
+pub use crate::output::print_file;
 pub use crate::output::print_line;
 
 // Lists standard input, or says on standard error why it can't. The space has one byte more than a file may have, so that a longer

@@ -10,6 +10,7 @@ use native.Mathlib.Omega.{arith}
 use lib.ListN.{length, take}
 use Rattle.lexer.specs.Lexed.{lexed}
 use Rattle.lexer.specs.Refusals.{Input}
+use Rattle.lexer.proofs.Laws.Accepted.{accepted-count, accepted-few}
 use Rattle.lexitem.specs.Faults.{listed}
 use Rattle.lexitem.specs.declared.answer.Answer.{Answer}
 use Rattle.lexitem.specs.declared.answer.Outcome.the-variants.{Accepted, Refused}
@@ -19,7 +20,6 @@ use Rattle.listing.specs.Listed.{Fitted, ListedInto, fittedAnswer, liste
 use Rattle.listing.specs.Listing.{listingOf}
 use Rattle.listing.specs.declared.Listed.{Listed}
 use Rattle.listing.specs.declared.Listed.the-variants as listing
-use Rattle.listing.proofs.Laws.Accepted.{accepted-count}
 use Rattle.listing.proofs.Laws.Longest.{listing-longest}
 
 module _ (i : Input) (a : Answer) (x : LexItem) (e : a ≡ lexed i) (o : a .outcome ≡ Accepted x) where
@@ -28,7 +28,11 @@ module _ (i : Input) (a : Answer) (x : LexItem) (e : a ≡ lexed i) (o : a .outc
 
   pub fit-asks : (a .faults .count ≤ 16) × (length (listingOf (i .number) (i .line) x (take (a .faults .count) (a .faults .list))) < 2 ^ 64)
   unfolding listed
-  fit-asks = rw e (accepted-count i x so, (let h = listing-longest i x so in omega arith))
+  fit-asks =
+      let count = accepted-count i x so in
+      let few = accepted-few i x so in
+      let long = listing-longest i x so in
+      rw e ((omega arith), (omega arith))
 
   pub listed-fit : (before : List ℕ) (r : Listed) (after : List ℕ)
       → Fitted before (listingOf (i .number) (i .line) x (take (a .faults .count) (a .faults .list))) r after → ListedInto before i r after

@@ -36,7 +36,7 @@ use Rattle.listing.specs.Each.{each}
 use Rattle.listing.specs.Listed.{listingBy}
 use Rattle.listing.specs.Listing.{numberRow, faultBytes, faultsBytes, listingOf, longest}
 use Rattle.listing.specs.Row.{rowsBytes}
-use Rattle.listing.proofs.Laws.Accepted.{accepted-item, accepted-line, accepted-few}
+use Rattle.lexer.proofs.Laws.Accepted.{accepted-item, accepted-line, accepted-few, accepted-faults}
 use Rattle.listing.proofs.Laws.Room.{decimal-most, roomOf, rowsRoom, rows-room, text-most, within-most, from-most, end-most}
 
 -- ---- the rows of a kind
@@ -190,5 +190,5 @@ listing-longest i x e =
     let fields = fieldsOf (itemOf (kind i) (i .line)) in
     let most = rows-room (i .line) fields in
     let room = kind-room (kind i) (i .line) (accepted-line i x e) in
-    let all = listing-most (i .number) (i .line) (itemOf (kind i) (i .line)) (listed (lexed i .faults)) 3091 (omega arith) (accepted-few i x e) in
+    let all = listing-most (i .number) (i .line) (itemOf (kind i) (i .line)) (listed (lexed i .faults)) 3091 (omega arith) (rw (accepted-faults i x e) (accepted-few i x e)) in
     rw (accepted-item i x e) (omega arith)

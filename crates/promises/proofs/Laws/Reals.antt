@@ -7,26 +7,22 @@
 --     reals-all             the real fields of an accepted record are the real entries of its kind's table: none is left out
 -- Assumes nothing.
 use Prim.Native.Nat.{ℕ, _*_, _^_}
-use mathlib.Core.Path.{_≡_, refl, sym, ap, _∙_}
+use mathlib.Core.Path.{_≡_, ap}
 use mathlib.Core.Logic.{⊎-elim}
-use mathlib.Core.Bool.{Bool, true, false, cond}
-use mathlib.Core.List.{List, [], _∷_, map, List·Memᴰ}
+use mathlib.Core.Bool.{Bool}
+use mathlib.Core.List.{List, map, List·Memᴰ}
 use native.Mathlib.Omega.{arith}
-use borrow.Author.Tests.{ltb-false}
-use lib.ListN.{length, take, drop}
-use lib.Dec.{T, ltb}
+use lib.Dec.{T}
 use lib.Ieee.Scale.{finite}
 use Rattle.number.proofs.Laws.Tells.{near-tells, near-finite}
 use Rattle.lexitem.specs.Faults.{listed}
-use Rattle.lexitem.specs.declared.answer.Answer.{Answer}
 use Rattle.lexitem.specs.declared.answer.Outcome.the-variants.{Accepted}
-use Rattle.lexitem.specs.declared.answer.Refusal.{Refusal}
 use Rattle.lexitem.specs.declared.item.LexItem.{LexItem}
-use Rattle.lexitem.proofs.Laws.Faults.{noted-listed}
 use Rattle.field.specs.Table.{Entry, tableFaults}
 use Rattle.lexer.specs.Item.{tableOf, partial, itemOf, faultsOf}
-use Rattle.lexer.specs.Refusals.{Input, Row, rows, kind, given, faults}
-use Rattle.lexer.specs.Lexed.{refused, accepted, firstOf, lexed}
+use Rattle.lexer.specs.Refusals.{Input, kind, given}
+use Rattle.lexer.specs.Lexed.{lexed}
+use Rattle.lexer.proofs.Laws.Accepted.{accepted-item, accepted-faults}
 use Rattle.promises.specs.Reals.{RealField, realsOf, namedBy, Written, Filled, Kept}
 use Rattle.promises.proofs.Laws.RealsNamed.{chosen}
 use Rattle.promises.proofs.Laws.RealsTable.{entryOf, readIn, Look, looked, due, looks-due, isReal, reals-stand}
@@ -37,34 +33,13 @@ abbrev pub tableIn : Input → List Entry
 tableIn i = tableOf (kind i) (partial (kind i) (i .line))
 
 module _ (i : Input) where
-  -- ---- where the answer is a record, no row of refusals holds
-  row-failed : (b : Bool) (r : Refusal) (else : Answer) (x : LexItem) → cond b (refused i r) else .outcome ≡ Accepted x → b ≡ false
-  row-failed true r else x e = cc
-  row-failed false r else x e = refl
-
-  rows-passed : (rs : List Row) (else : Answer) (x : LexItem) → firstOf i rs else .outcome ≡ Accepted x → firstOf i rs else ≡ else
-  rows-passed [] else x e = refl
-  rows-passed (r ∷ rest) else x e = go (r .holds) (rows-passed rest else x) e
-    where
-      go : (b : Bool) → (firstOf i rest else .outcome ≡ Accepted x → firstOf i rest else ≡ else)
-          → cond b (refused i (r .gives)) (firstOf i rest else) .outcome ≡ Accepted x
-          → cond b (refused i (r .gives)) (firstOf i rest else) ≡ else
-      go true on e = cc
-      go false on e = on e
-
   module _ (x : LexItem) (yes : lexed i .outcome ≡ Accepted x) where
     line-item : x ≡ itemOf (kind i) (i .line)
-    unfolding lexed
-    line-item = let e = rows-passed (rows i) (accepted i) x yes in cc
+    line-item = accepted-item i x yes
 
     line-faults : listed (lexed i .faults) ≡ tableFaults (given i) (tableIn i)
-    unfolding lexed faultsOf
-    line-faults =
-        let last = rows-passed (take 6 (rows i)) (firstOf i (drop 6 (rows i)) (accepted i)) x yes in
-        let few : ltb 16 (length (faults i)) ≡ false =
-        row-failed (ltb 16 (length (faults i))) _ (accepted i) x (ap (λ (answer : Answer). answer .outcome) (sym last) ∙ yes) in
-        ap (λ (answer : Answer). listed (answer .faults)) (rows-passed (rows i) (accepted i) x yes)
-        ∙ noted-listed (faults i) (ltb-false 16 (length (faults i)) few)
+    unfolding faultsOf
+    line-faults = accepted-faults i x yes
 
     pub reals-all : map entryOf (realsOf x) ≡ chosen isReal (tableIn i)
     reals-all = rw line-item (reals-stand (i .line) (kind i) .0)

@@ -5,19 +5,17 @@
 --     refusal-empty         a refusal comes with an empty list of faults
 --     refusal-unlisted      which lists none
 --     line-through          the line's number is handed through
---     silent-few            where the 17th fault's rule is silent there are at most sixteen faults
 --     atoms-kept            under atoms only a line is of a kind that atoms only keeps
 --     atoms-skip            and of no other kind
 --     atoms-silent          so the rules of 4, 5 and 6 are silent
 --     atoms-refused-when    and a line is refused by the other four
 -- Assumes nothing.
-use Prim.Native.Nat.{ℕ, _≤_}
+use Prim.Native.Nat.{ℕ}
 use mathlib.Core.Path.{_≡_, refl, sym, ap, _∙_}
 use mathlib.Core.Logic.{_≢_, _↔_, _⊎_, inl, inr, ⊎-elim, Iff·trans}
 use mathlib.Core.Bool.{Bool, true, false, cond, not, _&&_}
 use mathlib.Core.List.{List, [], _∷_}
 use native.Mathlib.Omega.{arith}
-use borrow.Author.Tests.{ltb-false}
 use lib.ListN.{length, take}
 use lib.Dec.{ltb}
 use Rattle.number.proofs.Laws.Choice.{clash}
@@ -127,14 +125,6 @@ module _ (i : Input) where
   pub line-through : lexed i .line ≡ i .number
   unfolding lexed
   line-through = first-line i (rows i)
-
-  -- where row 7 is silent the list holds every fault
-  pub silent-few : Silent (faultRule i) → length (faults i) ≤ 16
-  silent-few s = go (ltb 16 (length (faults i))) refl
-    where
-      go : (b : Bool) → ltb 16 (length (faults i)) ≡ b → length (faults i) ≤ 16
-      go true e = absurd (s _ (fault-row i .0 e))
-      go false e = ltb-false 16 (length (faults i)) e
 
 -- ---- atoms only
 -- a choice of two kinds that are kept

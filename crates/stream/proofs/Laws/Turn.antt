@@ -1,10 +1,11 @@
 -- A turn of the loop over a file's lines: the lines from a number on are those from an offset on.
---     turn-first     so it is at the first line
---     turn-next      and after a step
+--     Stands                     a line that has a number stands at an offset
+--     turn-first, turn-next      so does the first line, and the one behind a step
+--     turn-moves                 a step goes on, and not past the end
 -- Assumes nothing.
 use Prim.Native.Nat.{ℕ, _+_, _-_, _≤_, _<_}
 use mathlib.Core.Path.{_≡_, refl, sym, ap, _∙_}
-use mathlib.Core.List.{List, _∷_}
+use mathlib.Core.List.{List}
 use native.Mathlib.Omega.{arith}
 use lib.ListN.{length, drop}
 use lib.Seq.{drop-drop}

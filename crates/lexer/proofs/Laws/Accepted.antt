@@ -1,8 +1,10 @@
 -- What an accepted line is: no row of refusals holds of it.
---     accepted-item      its record is that of its kind
+--     accepted-answer    its answer is the record of its kind with the faults of its kind
+--     accepted-item      so its record is that of its kind
 --     accepted-line      it has at most 1,024 bytes
---     accepted-count     at most sixteen faults are counted
---     accepted-few       and listed
+--     accepted-few       and at most sixteen faults
+--     accepted-count     as many are counted
+--     accepted-faults    and listed, in their order
 -- Assumes nothing.
 use Prim.Native.Nat.{_≤_}
 use mathlib.Core.Path.{_≡_, refl, sym, ap, _∙_}
@@ -36,12 +38,12 @@ module _ (i : Input) (x : LexItem) where
       go false on e = on e
 
   module _ (yes : lexed i .outcome ≡ Accepted x) where
-    is-accepted : lexed i ≡ accepted i
+    pub accepted-answer : lexed i ≡ accepted i
     unfolding lexed
-    is-accepted = rows-passed (rows i) (accepted i) yes
+    accepted-answer = rows-passed (rows i) (accepted i) yes
 
     pub accepted-item : x ≡ itemOf (kind i) (i .line)
-    accepted-item = let e = is-accepted in cc
+    accepted-item = let e = accepted-answer in cc
 
     pub accepted-line : length (i .line) ≤ 1024
     unfolding lexed
@@ -50,14 +52,14 @@ module _ (i : Input) (x : LexItem) where
         ltb-false 1024 (length (i .line))
         (row-failed _ _ (firstOf i (drop 2 (rows i)) (accepted i)) (ap (λ (a : Answer). a .outcome) (sym on) ∙ yes))
 
-    few : length (faults i) ≤ 16
+    pub accepted-few : length (faults i) ≤ 16
     unfolding lexed
-    few =
+    accepted-few =
         let on = rows-passed (take 6 (rows i)) (firstOf i (drop 6 (rows i)) (accepted i)) yes in
         ltb-false 16 (length (faults i)) (row-failed _ _ (accepted i) (ap (λ (a : Answer). a .outcome) (sym on) ∙ yes))
 
-    pub accepted-count : lexed i .faults .count ≤ 16
-    accepted-count = rw is-accepted (rw (noted-exact (faults i) few) few)
+    pub accepted-count : lexed i .faults .count ≡ length (faults i)
+    accepted-count = rw accepted-answer (noted-exact (faults i) accepted-few)
 
-    pub accepted-few : length (listed (lexed i .faults)) ≤ 16
-    accepted-few = rw is-accepted (rw (noted-listed (faults i) few) few)
+    pub accepted-faults : listed (lexed i .faults) ≡ faults i
+    accepted-faults = rw accepted-answer (noted-listed (faults i) accepted-few)
