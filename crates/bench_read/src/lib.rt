@@ -9,6 +9,7 @@ use lexitem::answer::Options;
 use lexitem::answer::Outcome;
 use lexitem::atom::Atom;
 use lexitem::item::LexItem;
+use page::bits_of;
 use std::num::wrapping_add_u64;
 use walker::lines::Step;
 use walker::lines::line;
@@ -20,14 +21,10 @@ fn mixed(sum: u64, value: u64) -> u64
     wrapping_add_u64(wrapping_add_u64(wrapping_add_u64(sum, sum), sum), value)
 }
 
-// No reader gives a NaN, whose bits aren't known: one NaN's pattern stands for it.
 fn mixed_real(sum: u64, x: f64) -> u64
     ensures { λ r. ⌜ r ≡ specs.mixedReal sum x ⌝ }
 {
-    if x == x {
-        return mixed(sum, f64::to_bits(x));
-    }
-    mixed(sum, 0x7FF8_0000_0000_0000)
+    mixed(sum, bits_of(x))
 }
 
 fn mixed_atom(sum: u64, atom: Atom) -> u64

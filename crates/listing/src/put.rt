@@ -1,11 +1,11 @@
 // How the rows of a listing are put.
 ghost use mathlib.Core.Path.{_≡_};
-ghost use lib.Ieee.{binary64, toBits};
 ghost use Rattle.listing.specs.Row as specs;
 ghost use Rattle.page.specs.Page.{page, put};
 use lexitem::text::Character;
 use lexitem::text::Field;
 use lexitem::text::view;
+use page::bits_of;
 use page::put_byte;
 use page::put_escaped;
 use page::put_hex;
@@ -31,16 +31,6 @@ fn is_present(value: Value) -> bool
         Value::Flag(_) => true,
         Value::Nothing => false,
     }
-}
-
-// A double's bits. No reader gives a NaN, whose bits aren't known: one NaN's pattern stands for it.
-fn bits_of(x: f64) -> u64
-    ensures { λ r. ⌜ r ≡ toBits binary64 x ⌝ }
-{
-    if x == x {
-        return f64::to_bits(x);
-    }
-    0x7FF8_0000_0000_0000
 }
 
 // A character that the line doesn't reach shows as one blank.

@@ -1,7 +1,6 @@
 // Runs the readers of `number` on texts. Standard input is cut at LF; for each text that an LF ends, one line says
 // what every reader makes of it: U, I, R as the bits of its double, D as sign, M and p, A as the bits of its
 // ten-thousandths, T as place and length, and E as the length that end-trimming leaves. `-` stands for a refusal.
-ghost use Prim.Native.Nat.{_<_};
 use number::decimal::Decimal;
 use number::decimal::read_decimal;
 use number::real::Real;
@@ -13,6 +12,8 @@ use number::whole::Signed;
 use number::whole::Unsigned;
 use number::whole::read_signed;
 use number::whole::read_unsigned;
+use page::bits_of;
+use page::put_hex;
 
 fn put(text: &[u8]) {
     io::write_all(libc::STDOUT_FILENO, text);
@@ -22,50 +23,18 @@ fn put_number(n: u64) {
     io::print_decimal(libc::STDOUT_FILENO, n);
 }
 
-// How far a number is from zero: for one below, one more than the distance of the next, which fits.
-fn magnitude(n: i64) -> u64 {
-    if n < 0 {
-        return (0 - (n + 1)) as u64 + 1;
-    }
-    n as u64
-}
-
 fn put_signed(n: i64) {
-    if n < 0 {
-        put(b"-");
+    let mut text = [0u8; 20];
+    let length = page::put_signed(&mut text, 0, n);
+    if length <= 20 {
+        put(&text[..length]);
     }
-    put_number(magnitude(n));
 }
 
-// A hexadecimal digit in upper case.
-fn glyph(d: u64) -> u8
-    requires { ⌜ d < 16 ⌝ }
-{
-    if d < 10 {
-        return 48 + d as u8;
-    }
-    55 + d as u8
-}
-
-// Sixteen hexadecimal digits.
 fn put_bits(bits: u64) {
     let mut text = [0u8; 16];
-    let mut i = 16;
-    let mut rest = bits;
-    while 0 < i {
-        i -= 1;
-        text[i] = glyph(rest % 16);
-        rest /= 16;
-    }
+    put_hex(&mut text, 0, bits);
     put(&text);
-}
-
-// A double's bits. No reader gives a NaN, whose bits aren't known: one NaN's pattern stands for it.
-fn bits_of(x: f64) -> u64 {
-    if x == x {
-        return f64::to_bits(x);
-    }
-    0x7FF8_0000_0000_0000
 }
 
 fn put_real(got: Real) {

@@ -4,6 +4,7 @@
 ghost use mathlib.Core.Path.{_≡_};
 ghost use mathlib.Core.List.{[], _∷_};
 ghost use Prim.Native.Nat.{_<_};
+ghost use lib.Ieee.{binary64, toBits};
 ghost use lib.IntN.{natAbs};
 ghost use Rattle.page.specs.Numerals as numerals;
 ghost use Rattle.page.specs.Page.{page, put};
@@ -120,6 +121,16 @@ pub fn put_signed(out: &mut [u8], at: usize, n: i64) -> usize
         return put_unsigned(out, next, magnitude(n));
     }
     put_unsigned(out, at, magnitude(n))
+}
+
+// A double's bits. A NaN's own aren't known, and no reader gives one: one NaN's pattern stands for it.
+pub fn bits_of(x: f64) -> u64
+    ensures { λ r. ⌜ r ≡ toBits binary64 x ⌝ }
+{
+    if x == x {
+        return f64::to_bits(x);
+    }
+    0x7FF8_0000_0000_0000
 }
 
 // The sixteen hex digits of 64 bits.

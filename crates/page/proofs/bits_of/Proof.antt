@@ -1,4 +1,4 @@
--- `listing::put::bits_of` meets its contract: only a NaN does not equal itself.
+-- `page::bits_of` meets its contract: only a NaN does not equal itself.
 -- Assumes nothing.
 use Prim.Native.Nat.{ℕ, _*_}
 use mathlib.Core.Path.{_≡_, refl}
@@ -8,8 +8,8 @@ use borrow.Author.Tests.{eq-eqb}
 use lib.Dec.{T}
 use lib.Ieee.{Float, nan, inf, fin, eq, isNan, level, up, down, binary64, toBits}
 use borrow.Author.Needs.{needs}
-use Rattle.listing.proofs.put.bits_of.Statement.{statement}
-use Rattle.listing.proofs.put.bits_of.Tie as tie
+use Rattle.page.proofs.bits_of.Statement.{statement}
+use Rattle.page.proofs.bits_of.Tie as tie
 
 no-nan : (x : Float) → eq x x ≡ true → T (not (isNan x))
 unfolding eq isNan
