@@ -1,5 +1,5 @@
-// One column field of a line: its value, or its default with a fault noted. The list of faults goes through by
-// value, and every reader hands it back beside the value.
+// One column field of a line, in two ways: its value and whether it is fine, or its value beside the list of faults, which goes
+// through by value and has the field's fault noted if the field isn't fine.
 pub mod charge;
 pub mod number_field;
 pub mod text_field;

@@ -6,6 +6,7 @@ pub mod Digits
 pub mod Run
 pub mod Signed
 pub mod Decimal
+pub mod Fixed
 pub mod Apart
 pub mod Halves
 pub mod Kept

@@ -7,3 +7,4 @@ pub mod Double
 pub mod Real
 pub mod Near
 pub mod Grammar
+pub mod Fixed

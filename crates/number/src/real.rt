@@ -5,9 +5,11 @@ ghost use Prim.Native.Nat.{_≤_, _<_, _^_};
 ghost use lib.IntN.{ℤ, pos, natAbs};
 ghost use lib.Ieee.{binary64, ofInt};
 ghost use Rattle.number.specs.Double.{doubleOf};
+ghost use Rattle.number.specs.Fixed.{Limits, SaysReal};
 ghost use Rattle.number.specs.Real as specs;
 use crate::decimal::Decimal;
 use crate::decimal::read_decimal;
+use crate::decimal::read_fixed;
 use crate::whole::Signed;
 use crate::whole::read_signed;
 
@@ -48,16 +50,41 @@ fn double(minus: bool, digits: u64, places: usize) -> f64
     quotient
 }
 
-pub fn read_real(text: &[u8]) -> Real
-    ensures { λ r. ⌜ r ≡ specs.realOf (now (text .entry)) ⌝ }
+// The double of a plain decimal.
+fn real_from(decimal: Decimal) -> Real
+    requires { ⌜ Limits decimal ⌝ }
+    ensures { λ r. ⌜ r ≡ specs.realFrom decimal ⌝ }
 {
-    match read_decimal(text) {
+    match decimal {
         Decimal::NotPlain => Real::NotR,
         Decimal::Plain {
             minus,
             digits,
             places,
         } => Real::R(double(minus, digits, places)),
+    }
+}
+
+// Coordinates have eight columns and three digits behind the point, occupancies and temperature factors six and two. With the
+// width known, so are the point's place and the power. Of a text that isn't written so nothing is said.
+fn quick_real(text: &[u8]) -> Real
+    ensures { λ r. ⌜ SaysReal (now (text .entry)) r ⌝ }
+{
+    if text.len() == 8 {
+        return real_from(read_fixed(text, 4));
+    }
+    if text.len() == 6 {
+        return real_from(read_fixed(text, 3));
+    }
+    Real::NotR
+}
+
+pub fn read_real(text: &[u8]) -> Real
+    ensures { λ r. ⌜ r ≡ specs.realOf (now (text .entry)) ⌝ }
+{
+    match quick_real(text) {
+        Real::R(value) => Real::R(value),
+        Real::NotR => real_from(read_decimal(text)),
     }
 }
 

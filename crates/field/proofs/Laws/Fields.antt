@@ -1,7 +1,6 @@
 -- Laws of single fields.
 --     part-short                 columns that the line doesn't reach hold the empty part
 --     unsigned-none, ..          which says no number
---     digit-low, -high, -yes     whether a byte is a digit, by the tests
 --     two-columns                where two bytes stand, there are two columns
 --     signed-held, charge-held   a signed field comes back from its bits
 --     span-within                a trimmed text lies in its part
@@ -11,7 +10,7 @@ use mathlib.Core.Path.{_≡_, refl}
 use mathlib.Core.Bool.{Bool, true, false, cond, _&&_}
 use mathlib.Core.List.{List, []}
 use native.Mathlib.Omega.{arith}
-use borrow.Author.Tests.{le-leb, lt-leb, leb-true}
+use borrow.Author.Tests.{leb-true}
 use lib.ListN.{length, take, drop, getD, length-take}
 use lib.Dec.{leb, ltb, eqb, lit<}
 use lib.IntN.{ℤ, pos}
@@ -63,23 +62,6 @@ span-within t = go (eqb (length (trimmed t)) 0) (leading-le t)
         → cond {A = Span} b (record { place = 0; length = 0 }) (record { place = leading t; length = length (trimmed t) }) .place ≤ length t
     go true h = omega arith
     go false h = h
-
--- ---- whether a byte is a digit, from the tests that a reader makes
-pub digit-low : (b : ℕ) → b < 48 → digit b ≡ false
-unfolding digit
-digit-low b h = rw (lt-leb 48 b h) refl
-
-pub digit-high : (b : ℕ) → 57 < b → digit b ≡ false
-unfolding digit
-digit-high b h = rw (lt-leb b 57 h) (no-right (leb 48 b))
-  where
-    no-right : (x : Bool) → x && false ≡ false
-    no-right true = refl
-    no-right false = refl
-
-pub digit-yes : (b : ℕ) → 48 ≤ b → b ≤ 57 → digit b ≡ true
-unfolding digit
-digit-yes b l h = rw (le-leb 48 b l, le-leb b 57 h) refl
 
 -- two bytes in the columns, then a second column is no further than 16 bits count
 pub two-columns : (l : List ℕ) (at : Columns) → length (partOf l at) ≡ 2 → at .start + 2 ≤ at .end

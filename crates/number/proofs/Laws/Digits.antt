@@ -1,5 +1,6 @@
 -- Laws of digits and the number they say.
 --     digit-at-most, digit-not                     one digit
+--     digit-low, -high, -yes                       whether a byte is a digit, by the tests
 --     value-ge, value-below                        the number is no less than what stood before, and below 10 ^ w for w digits
 --     value-append, digits-append, digits-at       two texts, one behind the other, and one byte of a text
 --     begins-long, -first, -none                   what a text begins with
@@ -8,11 +9,11 @@
 -- Assumes nothing.
 use Prim.Native.Nat.{ℕ, zero, suc, _+_, _-_, _*_, _^_, _≤_, _<_}
 use mathlib.Core.Path.{_≡_, refl, sym, ap, _∙_}
-use mathlib.Core.Bool.{true, false, _&&_}
+use mathlib.Core.Bool.{true, false, _&&_, and-false}
 use mathlib.Core.List.{List, [], _∷_, _++_}
 use native.Mathlib.Nat.{mul-le-mul-right, mul-assoc, lt-of-lt-of-le, mul-one, pow-succ', pow-le-pow-right, one-mul, zero-lt-suc}
 use native.Mathlib.Omega.{arith}
-use borrow.Author.Tests.{leb-true, ne-eqb}
+use borrow.Author.Tests.{le-leb, lt-leb, leb-true, ne-eqb}
 use lib.ListN.{length, take, drop, getD, length-drop}
 use lib.Dec.{leb, eqb}
 use Rattle.number.proofs.Laws.Choice.{and-left, and-right, and-assoc, clash}
@@ -30,6 +31,19 @@ digit-at-most b e =
 pub digit-not : (k b : ℕ) → k < 48 → digit b ≡ true → eqb b k ≡ false
 unfolding digit
 digit-not k b l e = let h = leb-true 48 b (and-left (leb 48 b) (leb b 57) e) in ne-eqb b k (λ q. omega arith)
+
+-- whether a byte is a digit, from the tests that a reader makes
+pub digit-low : (b : ℕ) → b < 48 → digit b ≡ false
+unfolding digit
+digit-low b h = rw (lt-leb 48 b h) refl
+
+pub digit-high : (b : ℕ) → 57 < b → digit b ≡ false
+unfolding digit
+digit-high b h = rw (lt-leb b 57 h) (and-false (leb 48 b))
+
+pub digit-yes : (b : ℕ) → 48 ≤ b → b ≤ 57 → digit b ≡ true
+unfolding digit
+digit-yes b l h = rw (le-leb 48 b l, le-leb b 57 h) refl
 
 -- ---- the number
 pub value-ge : (t : List ℕ) (m : ℕ) → m ≤ valueFrom m t

@@ -3,6 +3,8 @@
 --     decimal-near, real-near              the double is near the written number
 --     real-finite                          it is finite and no NaN
 --     reals-tell                           two texts with the same double say the same number, with the same sign
+--     says-limits, says-real               what was read as the text says it is within the limits, and its double is the text's
+--     said-decimal                         what the text says was read so
 --     ten-thousandths-near                 an integer's double over 10000.0, in up to seven columns, is near its number
 --     ten-thousandths-tell                 two integers of up to ten digits with the same double are the same
 -- Assumes nothing.
@@ -22,6 +24,7 @@ use Rattle.number.specs.Decimal.{decimalOf}
 use Rattle.number.specs.Double.{doubleOf}
 use Rattle.number.specs.Near.{Near}
 use Rattle.number.specs.Real.{realFrom, realOf, tenThousandth, tenThousandthsOf}
+use Rattle.number.specs.Fixed.{SaysDecimal, SaysReal, Limits}
 use Rattle.number.specs.Sign.{below}
 use Rattle.number.specs.declared.whole.Signed.the-variants.{I}
 use Rattle.number.specs.declared.decimal.Decimal.{Decimal}
@@ -68,6 +71,19 @@ reals-tell t u {s} {r} {m} {n} {p} {q} d e same =
     let one : doubleOf r n q ≡ doubleOf s m p = cc in
     let other = rw one at (decimal-near u e) in
     near-tells s r m n p q (doubleOf s m p) (decimal-near t d) other (decimal-limits t d .0) (decimal-limits u e .0)
+
+-- ---- what was read, if anything was
+pub says-limits : (t : List ℕ) (d : Decimal) → SaysDecimal t d → Limits d
+says-limits t (Plain s m p) e = decimal-limits t e
+says-limits t NotPlain e = tt
+
+pub says-real : (t : List ℕ) (d : Decimal) → SaysDecimal t d → SaysReal t (realFrom d)
+says-real t (Plain s m p) e = real-is t e
+says-real t NotPlain e = tt
+
+pub said-decimal : (t : List ℕ) (d : Decimal) → d ≡ decimalOf t → SaysDecimal t d
+said-decimal t (Plain s m p) e = sym e
+said-decimal t NotPlain e = tt
 
 -- ---- ten-thousandths
 pub ten-thousandths-near : (t : List ℕ) {z : ℤ} → signedOf t ≡ I z → length t ≤ 7

@@ -1,6 +1,6 @@
 -- `field::charge::charge` meets its contract: a fine charge notes nothing, and one that isn't stands in both columns and notes its one fault.
 -- Assumes nothing.
-use mathlib.Core.Path.{refl, sym, ap, _∙_}
+use mathlib.Core.Path.{refl, ap, _∙_}
 use native.Mathlib.Omega.{arith}
 use lib.ListN.{length}
 use denote.Ref.{now}

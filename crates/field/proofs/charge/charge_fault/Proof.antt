@@ -1,7 +1,7 @@
 -- `field::charge::charge_fault` meets its contract: the tests are those of a digit.
 -- Assumes nothing.
 use mathlib.Core.Path.{refl}
-use Rattle.field.proofs.Laws.Fields.{digit-low, digit-high, digit-yes}
+use Rattle.number.proofs.Laws.Digits.{digit-low, digit-high, digit-yes}
 use borrow.Author.Needs.{needs}
 use Rattle.field.proofs.charge.charge_fault.Statement.{statement}
 use Rattle.field.proofs.charge.charge_fault.Tie as tie

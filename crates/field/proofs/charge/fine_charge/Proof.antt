@@ -2,7 +2,6 @@
 -- Assumes nothing.
 use mathlib.Core.Path.{refl, sym, _∙_}
 use borrow.Author.Tests.{eq-eqb, ne-eqb}
-use denote.Ref.{now}
 use Rattle.field.specs.Charge.{charged, chargeAt, chargeFaults}
 use Rattle.field.proofs.Laws.Fine.{charge-fine}
 use borrow.Author.Needs.{needs}

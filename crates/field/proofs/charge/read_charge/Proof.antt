@@ -8,7 +8,7 @@ use mir.Syntax.{w64}
 use mir.Facts.{toZ-ofZ, toZ-pos}
 use Rattle.field.specs.Charge.{chargeOf}
 use Rattle.number.proofs.Laws.Signed.{minus-is, minus-fits}
-use Rattle.field.proofs.Laws.Fields.{digit-low, digit-high, digit-yes}
+use Rattle.number.proofs.Laws.Digits.{digit-low, digit-high, digit-yes}
 use borrow.Author.Needs.{needs}
 use Rattle.field.proofs.charge.read_charge.Statement.{statement}
 use Rattle.field.proofs.charge.read_charge.Tie as tie

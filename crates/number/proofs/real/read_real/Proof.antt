@@ -1,36 +1,46 @@
--- `number::real::read_real` meets its contract: a plain decimal has at most ten digits, nine of them behind the point.
+-- `number::real::read_real` meets its contract: what the quick reading says is what the text says, and where it says nothing the text is read
+-- from its front.
 -- Assumes nothing.
 use mathlib.Core.Path.{sym, ap, _∙_}
-use Rattle.number.proofs.Laws.Width.{decimal-limits}
 use Rattle.number.specs.Real.{realOf, realFrom}
-use Rattle.number.specs.declared.real.Real.the-variants.{R}
+use Rattle.number.proofs.Laws.Real.{says-limits, said-decimal}
 use borrow.Author.Needs.{needs}
 use Rattle.number.proofs.real.read_real.Statement.{statement}
 use Rattle.number.proofs.real.read_real.Tie as tie
 
-read-decimal-requires : tie.Need-read-decimal-requires
-read-decimal-requires c κs = search needs
+quick-real-requires : tie.Need-quick-real-requires
+quick-real-requires c κs = search needs
+
+enum-known-value : tie.Need-enum-known-value
+enum-known-value c = search needs
 
 enum-told : tie.Need-enum-told
 enum-told c = search needs
 
-enum-known-minus : tie.Need-enum-known-minus
-enum-known-minus c = search needs
+read-decimal-requires : tie.Need-read-decimal-requires
+read-decimal-requires c κs = search needs
 
-double-requires : tie.Need-double-requires
-double-requires c κs = decimal-limits _ (sym (c .before .before .before .read-decimal .ensures) ∙ c .before .minus .given .1)
+real-from-requires : tie.Need-real-from-requires
+real-from-requires c κs =
+    let t = c .before .before .before .before .before .args .text .now in
+    let d = c .read-decimal .result in
+    says-limits t d (said-decimal t d (c .read-decimal .ensures))
 
 returns : tie.Need-returns
-unfolding realOf
-returns c = ap realFrom (sym (c .enum-told .given .1) ∙ c .before .before .read-decimal .ensures)
+returns c = sym (rw (c .before .value .given .1) at (c .before .before .before .quick-real .ensures))
 
 returns-2 : tie.Need-returns-2
 unfolding realOf
-returns-2 c =
-    let said = sym (c .before .before .minus .given .1) ∙ c .before .before .before .before .read-decimal .ensures in
-    ap R (c .double .ensures) ∙ ap realFrom said
+returns-2 c = c .real-from .ensures ∙ ap realFrom (c .before .read-decimal .ensures)
 
 pub read-real-spec : {M : Type 1} → statement M
 read-real-spec =
     tie.close
-    (tie.spec read-decimal-requires enum-told enum-known-minus double-requires returns returns-2)
+    (tie.spec
+    quick-real-requires
+    enum-known-value
+    enum-told
+    read-decimal-requires
+    real-from-requires
+    returns
+    returns-2)

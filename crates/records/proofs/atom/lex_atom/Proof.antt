@@ -1,6 +1,6 @@
 -- `records::atom::lex_atom` meets its contract: where every field of the table is fine, the table notes nothing.
 -- Assumes nothing.
-use mathlib.Core.Path.{refl, sym, ap, _∙_}
+use mathlib.Core.Path.{refl}
 use Rattle.lexitem.specs.Faults.{noFaults}
 use Rattle.field.proofs.Laws.Fine.{all-fine}
 use Rattle.records.specs.Atom.{atomTable}
