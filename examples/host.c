@@ -24,17 +24,20 @@ struct line {
     char listing[SALTIGHEDDA_LONGEST + 1];
 };
 
+/* By the numbers of the faults. Only the last is about a field that was read. */
 static const char *const faults[] = {
-    "is fine",
-    "the line ends before them",
-    "they hold no number",
-    "the charge has no digit",
-    "the charge has no sign",
-    "no such remark",
+    "fine",
+    "not read, the line ends before them",
+    "not read, they hold no number of the field's sort",
+    "not read, the charge has no digit",
+    "not read, the charge has no sign",
+    "read, but there is no such remark",
 };
 
+enum { CHARGE_UNSIGNED = 4, REMARK_UNKNOWN = 5 };
+
 static const char *const refusals[] = {
-    "is fine",
+    "fine",
     "the remark table has a wrong size",
     "the line is too long",
     "a byte is no ASCII",
@@ -72,9 +75,14 @@ static void print_columns(const struct line *line, size_t place, size_t length)
 static void print_fault(const struct line *line, size_t kind, size_t place, size_t length)
 {
     print_columns(line, place, length);
-    printf("not read, %s", reason(faults, sizeof faults / sizeof *faults, kind));
+    printf("%s", reason(faults, sizeof faults / sizeof *faults, kind));
+    if (kind == REMARK_UNKNOWN) {
+        printf("\n");
+        return;
+    }
+    /* The sign stands in the second of the charge's two columns. */
     size_t shown = 0;
-    const char *value = value_at(line->listing, place, &shown);
+    const char *value = value_at(line->listing, kind == CHARGE_UNSIGNED ? place - 1 : place, &shown);
     double real;
     uint64_t bits;
     char *end;
@@ -148,7 +156,7 @@ static size_t tell_all(const char *file, const uint8_t *bytes, size_t size)
         count += tell(&line);
         at = next;
     }
-    printf("%s: %zu lines, %zu not read as they stand\n", file, line.number, count);
+    printf("%s: %zu lines; fields or lines that were not read: %zu\n", file, line.number, count);
     return count;
 }
 
