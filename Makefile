@@ -50,6 +50,7 @@ format:
 
 contracts:
 	@tests/contracts.sh
+	@tests/promises.sh
 
 hosts: $(program) $(library)
 	@tests/pdblist.sh

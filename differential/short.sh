@@ -15,7 +15,7 @@ fi
 log=$(mktemp)
 trap 'rm -f "$log"' EXIT
 "$here/build.sh"
-"$repository/target/differential/differential" --short > "$log" || {
+"$repository/target/differential/differential" --short --file "$repository/examples/zinc.pdb" > "$log" || {
     cat "$log"
     exit 1
 }

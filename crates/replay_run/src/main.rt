@@ -1,6 +1,6 @@
 // Lists each file of its folder `data` as pdblist lists its input. The files are lines drawn by the differential run, of every kind and with
 // every fault that pdblist can show at every place, and `stdout` holds what the Rust answered for them; differential/README.md says how both
-// were made.
+// were made. The last file is empty.
 use stream::print_file;
 
 fn replay(path: &[u8]) {
@@ -19,4 +19,5 @@ fn main() {
     replay(b"sample-1");
     replay(b"sample-2");
     replay(b"sample-3");
+    replay(b"nothing");
 }
