@@ -37,13 +37,13 @@ fn power(p: usize) -> f64
     }
 }
 
-// M over 10^p, with its sign.
+// M over 10^p, with its sign. M goes by way of a signed integer, which a machine makes a double of in one step.
 fn double(minus: bool, digits: u64, places: usize) -> f64
     requires { ⌜ digits < 10 ^ 10 ⌝ }
     requires { ⌜ places ≤ 9 ⌝ }
     ensures { λ r. ⌜ r ≡ doubleOf minus digits places ⌝ }
 {
-    let quotient = (digits as f64) / power(places);
+    let quotient = ((digits as i64) as f64) / power(places);
     if minus {
         return -quotient;
     }

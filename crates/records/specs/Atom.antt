@@ -2,7 +2,8 @@
 -- 78..80. ANISOU: as ATOM, but for the R: I 28..35 35..42 42..49 49..56 56..63 63..70, each made a double and divided by 10000.0."
 -- "Faults stand in ascending columns, except that ATOM puts 30..66 and ANISOU 28..70 first."
 use Prim.Native.Nat.{ℕ}
-use mathlib.Core.Bool.{Bool}
+use mathlib.Core.Path.{_≡_}
+use mathlib.Core.Bool.{Bool, true}
 use mathlib.Core.List.{List, [], _∷_, _++_}
 use Rattle.field.specs.Charge.{chargeAt}
 use Rattle.field.specs.Number.{unsignedAt, signedAt, realAt, factorAt, zeroReal, oneReal}
@@ -15,6 +16,9 @@ use Rattle.lexitem.specs.declared.atom.Position.{Position}
 use Rattle.lexitem.specs.declared.atom.Atom.{Atom}
 use Rattle.lexitem.specs.declared.atom.Factors.{Factors}
 use Rattle.lexitem.specs.declared.atom.Anisou.{Anisou}
+use Rattle.records.specs.Lexed.{lineFine}
+use Rattle.records.specs.declared.atom.FineBasics.{FineBasics}
+use Rattle.records.specs.declared.atom.FineAtom.{FineAtom}
 
 -- what the three kinds share
 abbrev pub basicsTable : List Entry
@@ -64,6 +68,13 @@ atomOf hetero l = record {
   occupancy = realAt l (54 ⋯ 60) oneReal;
   bfactor = realAt l (60 ⋯ 66) zeroReal;
 }
+
+-- what was read without a list is the line's, if all of it is fine
+abbrev pub SaysBasics : List ℕ → FineBasics → Type 0
+SaysBasics l got = got .fine ≡ true → (got .value ≡ basicsOf l) × (lineFine l basicsTable ≡ true)
+
+abbrev pub SaysAtom : Bool → List ℕ → FineAtom → Type 0
+SaysAtom hetero l got = got .fine ≡ true → (got .value ≡ atomOf hetero l) × (lineFine l atomTable ≡ true)
 
 -- ANISOU's six
 abbrev pub factorsTable : List Entry

@@ -2,6 +2,7 @@
 // Nearly every line of a file is an atom without a fault, so an atom is read without a list of faults first. Only if a field
 // isn't fine is it read again, with the list going through.
 ghost use mathlib.Core.Path.{_≡_};
+ghost use mathlib.Core.Bool.{false};
 ghost use Rattle.records.specs.Atom as specs;
 ghost use Rattle.records.specs.Lexed.{alone, lineFine, lineNoted, lexedBy};
 use crate::Lexed;
@@ -27,6 +28,8 @@ use lexitem::atom::Factors;
 use lexitem::atom::Position;
 use lexitem::fault::Faults;
 use lexitem::item::LexItem;
+use lexitem::text::Character;
+use lexitem::text::Text;
 
 // What was read, and whether all of its fields are fine.
 pub struct FineBasics {
@@ -131,9 +134,25 @@ fn lex_atom_noted(line: &[u8], hetero: bool) -> Lexed
     }
 }
 
-fn quick_basics(line: &[u8]) -> FineBasics
-    ensures { λ r. ⌜ r ≡ record { value = specs.basicsOf (now (line .entry)); fine = lineFine (now (line .entry)) specs.basicsTable } ⌝ }
+// Nothing that was read.
+fn no_basics() -> FineBasics
+    ensures { λ r. ⌜ r .fine ≡ false ⌝ }
 {
+    let empty = Text::new(0, 0);
+    let absent = Character::Absent;
+    FineBasics {
+        value: Basics::new(0, empty, absent, empty, absent, 0, absent, empty, empty, 0),
+        fine: false,
+    }
+}
+
+// What the kinds share, of a line that reaches past the element: the one test spares each field its own.
+fn quick_basics(line: &[u8]) -> FineBasics
+    ensures { λ r. ⌜ specs.SaysBasics (now (line .entry)) r ⌝ }
+{
+    if line.len() < Basics::ELEMENT.end as usize {
+        return no_basics();
+    }
     let serial = fine_unsigned(line, Basics::SERIAL);
     let name = fine_text(line, Basics::NAME);
     let alternate = fine_optional(line, Basics::ALTERNATE);
@@ -180,7 +199,7 @@ fn quick_position(line: &[u8]) -> FinePosition
 }
 
 fn quick_atom(line: &[u8], hetero: bool) -> FineAtom
-    ensures { λ r. ⌜ r ≡ record { value = specs.atomOf hetero (now (line .entry)); fine = lineFine (now (line .entry)) specs.atomTable } ⌝ }
+    ensures { λ r. ⌜ specs.SaysAtom hetero (now (line .entry)) r ⌝ }
 {
     let position = quick_position(line);
     let occupancy = fine_real(line, Atom::OCCUPANCY, Atom::OCCUPANCY_DEFAULT);
@@ -198,7 +217,7 @@ fn quick_atom(line: &[u8], hetero: bool) -> FineAtom
     }
 }
 
-// A line that reaches the element's columns may be fine throughout; the one test spares each field its own.
+// A line that ends before the element has faults, and isn't read twice.
 pub fn lex_atom(line: &[u8], hetero: bool) -> Lexed
     ensures { λ r. ⌜ r ≡ lexedBy (alone (now (line .entry))) specs.atomTable (LexItem.Atom (specs.atomOf hetero (now (line .entry)))) ⌝ }
 {

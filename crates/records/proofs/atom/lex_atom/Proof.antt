@@ -27,9 +27,8 @@ none-requires c κs = search needs
 returns-2 : tie.Need-returns-2
 returns-2 c =
     let l = c .before .before .before .before .before .before .before .args .line .now in
-    let got = c .before .before .before .quick-atom .ensures in
-    let e = rw got at (c .before .before .if2 .taken) in
-    rw (c .none .ensures, got, all-fine (alone l) atomTable noFaults e) refl
+    let got = c .before .before .before .quick-atom .ensures (c .before .before .if2 .taken) in
+    rw (c .none .ensures, got .0, all-fine (alone l) atomTable noFaults (got .1)) refl
 
 lex-atom-noted-requires-2 : tie.Need-lex-atom-noted-requires-2
 lex-atom-noted-requires-2 c κs = search needs
