@@ -1,4 +1,4 @@
--- The laws of the words in specs/. Choice is of tests. Trim to Decimal are of texts, and prove the code. Apart to Powers are of
+-- The laws of the words in specs/. Choice is of tests. Trim to Fixed are of texts, and prove the code. Apart to Powers are of
 -- doubles, and end in the distance and in what a double tells. Grammar, Width and Real are what callers and readers cite.
 pub mod Choice
 pub mod Trim
@@ -6,6 +6,8 @@ pub mod Digits
 pub mod Run
 pub mod Signed
 pub mod Decimal
+pub mod Word
+pub mod Shape
 pub mod Fixed
 pub mod Apart
 pub mod Halves

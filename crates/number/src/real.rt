@@ -9,7 +9,7 @@ ghost use Rattle.number.specs.Fixed.{Limits, SaysReal};
 ghost use Rattle.number.specs.Real as specs;
 use crate::decimal::Decimal;
 use crate::decimal::read_decimal;
-use crate::decimal::read_fixed;
+use crate::fixed::read_fixed;
 use crate::whole::Signed;
 use crate::whole::read_signed;
 
@@ -65,18 +65,11 @@ fn real_from(decimal: Decimal) -> Real
     }
 }
 
-// Coordinates have eight columns and three digits behind the point, occupancies and temperature factors six and two. With the
-// width known, so are the point's place and the power. Of a text that isn't written so nothing is said.
+// The double of a text whose point stands at a known place. Of any other text nothing is said.
 fn quick_real(text: &[u8]) -> Real
     ensures { λ r. ⌜ SaysReal (now (text .entry)) r ⌝ }
 {
-    if text.len() == 8 {
-        return real_from(read_fixed(text, 4));
-    }
-    if text.len() == 6 {
-        return real_from(read_fixed(text, 3));
-    }
-    Real::NotR
+    real_from(read_fixed(text))
 }
 
 pub fn read_real(text: &[u8]) -> Real

@@ -9,37 +9,12 @@ read-fixed-requires : tie.Need-read-fixed-requires
 read-fixed-requires c κs = search needs
 
 real-from-requires : tie.Need-real-from-requires
-real-from-requires c κs =
-    says-limits (c .before .before .before .args .text .now) (c .read-fixed .result) (c .read-fixed .ensures)
+real-from-requires c κs = says-limits (c .before .before .args .text .now) (c .read-fixed .result) (c .read-fixed .ensures)
 
 returns : tie.Need-returns
 returns c =
     rw (c .real-from .ensures)
-    (says-real (c .before .before .before .before .args .text .now) (c .before .read-fixed .result) (c .before .read-fixed .ensures))
-
-read-fixed-requires-2 : tie.Need-read-fixed-requires-2
-read-fixed-requires-2 c κs = search needs
-
-real-from-requires-2 : tie.Need-real-from-requires-2
-real-from-requires-2 c κs =
-    says-limits (c .before .before .before .before .args .text .now) (c .read-fixed2 .result) (c .read-fixed2 .ensures)
-
-returns-2 : tie.Need-returns-2
-returns-2 c =
-    rw (c .real-from2 .ensures)
-    (says-real (c .before .before .before .before .before .args .text .now) (c .before .read-fixed2 .result) (c .before .read-fixed2 .ensures))
-
-returns-3 : tie.Need-returns-3
-returns-3 c = search needs
+    (says-real (c .before .before .before .args .text .now) (c .before .read-fixed .result) (c .before .read-fixed .ensures))
 
 pub quick-real-spec : {M : Type 1} → statement M
-quick-real-spec =
-    tie.close
-    (tie.spec
-    read-fixed-requires
-    real-from-requires
-    returns
-    read-fixed-requires-2
-    real-from-requires-2
-    returns-2
-    returns-3)
+quick-real-spec = tie.close (tie.spec read-fixed-requires real-from-requires returns)

@@ -1,4 +1,4 @@
--- `number::decimal::digits_behind` meets its contract. The loop's invariant: from here, with the number so far, the digits say what all do,
+-- `number::fixed::digits_behind` meets its contract. The loop's invariant: from here, with the number so far, the digits say what all do,
 -- and with i of them read the number is below 10 ^ (9 + i).
 -- Assumes nothing.
 use Prim.Native.Nat.{_+_, _-_, _^_, _≤_, _<_}
@@ -9,8 +9,8 @@ use Rattle.number.specs.Fixed.{digitsBehind}
 use Rattle.number.proofs.Laws.Digits.{digit-low, digit-high, digit-yes}
 use Rattle.number.proofs.Laws.Fixed.{behind-on, behind-stops, behind-ends, behind-room, behind-below}
 use borrow.Author.Needs.{needs}
-use Rattle.number.proofs.decimal.digits_behind.Statement.{statement}
-use Rattle.number.proofs.decimal.digits_behind.Tie as tie
+use Rattle.number.proofs.fixed.digits_behind.Statement.{statement}
+use Rattle.number.proofs.fixed.digits_behind.Tie as tie
 
 abbrev Inv-loop : tie.InvT-loop
 Inv-loop before text value₀ i₀ value i =
