@@ -10,7 +10,7 @@ use crate::tables;
 /// The lengths to which lines are cut, and past which good ones are padded.
 const CUTS: u64 = 101;
 /// Bytes that a name is filled up with.
-const FILLS: &[u8] = b" x1-.";
+const FILLS: &[u8] = b" q1-.";
 /// How long exhaustive short texts get.
 const SMALL_LONGEST: u32 = 5;
 /// Bytes for reals with letters, and how long these get.
@@ -216,7 +216,7 @@ fn whole_length(input: &mut Input, at: u64, random: &mut Random) {
     let which = take(&mut at, 13);
     let (start, fill, last): (&[u8], u8, u8) = match which {
         0 => (b"", b' ', b' '),
-        1 => (b"REMARK   2 ", b'x', b'x'),
+        1 => (b"REMARK   2 ", b'q', b'q'),
         2 => (b"REMARK   x ", b' ', b'x'),
         3 => (b"MODEL ", b'0', b'7'),
         4 => (b"MODEL ", b' ', b'7'),
@@ -226,7 +226,7 @@ fn whole_length(input: &mut Input, at: u64, random: &mut Random) {
         8 => (good(kind_named("CRYST1"), 2), b' ', b'4'),
         9 => (good(0, 0), b' ', b'x'),
         10 => (good(2, 1), b' ', b'x'),
-        11 => (good(random.index(28), 0), b'x', b'x'),
+        11 => (good(random.index(28), 0), b'q', b'q'),
         _ => {
             // The longest listing there is: every byte escaped, and a line number of twenty digits.
             input.number = usize::MAX;

@@ -40,7 +40,7 @@ fn draw_good(input: &mut Input, _at: u64, random: &mut Random) {
         0 => input.line.truncate(random.index(81)),
         1 => {
             let more = input.line.len() + random.index(30);
-            input.line.resize(more, random.pick(b" x"));
+            input.line.resize(more, random.pick(b" q"));
         }
         2 => {
             let end = input.line.iter().rposition(|byte| *byte != b' ');
@@ -213,7 +213,7 @@ fn draw_refused(input: &mut Input, at: u64, random: &mut Random) {
     }
     if which != 1 {
         let length = 1025 + random.index(600);
-        input.line.resize(length, random.pick(b" x\x0B0"));
+        input.line.resize(length, random.pick(b" q\x0B0"));
         if random.percent(30) {
             let place = random.index(length);
             input.line[place] = 128 + random.below(128) as u8;

@@ -188,7 +188,7 @@ pub fn damage(line: &mut Vec<u8>, random: &mut Random) {
             7 => line.truncate(at),
             8 => {
                 let end = length.min(at + 1 + random.index(12));
-                line[at..end].fill(random.pick(b"  x0"));
+                line[at..end].fill(random.pick(b"  q0"));
             }
             _ => {
                 let end = length.min(at + 1 + random.index(12));
