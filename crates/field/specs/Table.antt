@@ -31,8 +31,9 @@ pub data Entry : Type 0 where
   a : Columns → Entry
   -- U from a column to the line's end
   u-rest : ℕ → Entry
-  -- X, or a text of what the line reaches of the columns; a text that ends with the line
+  -- X; a text of what the line reaches of the columns; a text that ends with the line
   x : Columns → Entry
+  t-within : Columns → Entry
   t-rest : ℕ → Entry
   charge : Columns → Entry
   -- the number in the columns is in the remark table
@@ -52,6 +53,7 @@ faultsBy g (c? column) = characterFaults (g .line) column
 faultsBy g (a at) = factorFaults (g .line) at
 faultsBy g (u-rest start) = unsignedFromFaults (g .line) start
 faultsBy g (x at) = []
+faultsBy g (t-within at) = []
 faultsBy g (t-rest start) = []
 faultsBy g (charge at) = chargeFaults (g .line) at
 faultsBy g (known at) = knownFaults (g .remarks) (unsignedAt (g .line) at) at

@@ -8,7 +8,8 @@ use Rattle.field.specs.Number.{realAt, unsignedFrom, zeroReal}
 use Rattle.field.specs.Table.{Entry}
 use Rattle.field.specs.Text.{textWithin}
 use Rattle.lexitem.specs.Columns.{_⋯_}
-use Rattle.field.specs.Table.Entry.{r, x, u-rest, unwritten}
+use Rattle.field.specs.Table.Entry.{r, t-within, u-rest, unwritten}
+use Rattle.lexitem.specs.declared.columns.Columns.{Columns}
 use Rattle.lexitem.specs.declared.crystal.Cell.{Cell}
 use Rattle.lexitem.specs.declared.crystal.Crystal.{Crystal}
 use Rattle.lexitem.specs.declared.fault.Faults.{Faults}
@@ -47,11 +48,15 @@ abbrev pub zOf : Bool → List ℕ → ℕ
 zOf true l = unsignedFrom l 66
 zOf false l = 1
 
+-- columns that can't fault are named once, for the table and for the record
+abbrev pub spacegroupAt : Columns
+spacegroupAt = 55 ⋯ 66
+
 abbrev pub crystalTable : Bool → List Entry
-crystalTable z = cellTable ++ x (55 ⋯ 66) ∷ zEntry z ∷ []
+crystalTable z = cellTable ++ t-within spacegroupAt ∷ zEntry z ∷ []
 
 abbrev pub crystalOf : List ℕ → Crystal
-crystalOf l = record { cell = cellOf l; spacegroup = textWithin l (55 ⋯ 66); z = zOf (hasZ l) l }
+crystalOf l = record { cell = cellOf l; spacegroup = textWithin l spacegroupAt; z = zOf (hasZ l) l }
 
 abbrev pub gotZ : List ℕ → Faults → GotUnsigned
 gotZ l fs = record { value = zOf (hasZ l) l; faults = lineNoted l (zEntry (hasZ l) ∷ []) fs }

@@ -16,26 +16,34 @@ use Rattle.lexitem.specs.declared.item.LexItem.{LexItem}
 use Rattle.records.specs.Lexed.{lexedBy}
 use Rattle.records.specs.declared.Lexed.{Lexed}
 
--- X is the columns as they stand
-abbrev pub headerTable : List Entry
-headerTable = x (10 ⋯ 50) ∷ x (50 ⋯ 59) ∷ x (62 ⋯ 66) ∷ []
-
-abbrev pub headerOf : Header
-headerOf = record {
-  classification = record { place = 10; length = 40 };
-  date = record { place = 50; length = 9 };
-  code = record { place = 62; length = 4 };
-}
-
-abbrev pub remarkTable : List Entry
-remarkTable = u (7 ⋯ 10) ∷ known (7 ⋯ 10) ∷ t-rest 11 ∷ []
-
-abbrev pub remarkOf : List ℕ → Remark
-remarkOf l = record { number = unsignedAt l (7 ⋯ 10); text = endTextFrom l 11 }
-
--- the columns as they stand, as a text
+-- X is the columns as they stand, as a text
 abbrev pub standing : Columns → Text
 standing at = record { place = at .start; length = at .end - at .start }
+
+-- columns that can't fault are named once, for the table and for the record
+abbrev pub classificationAt : Columns
+classificationAt = 10 ⋯ 50
+
+abbrev pub dateAt : Columns
+dateAt = 50 ⋯ 59
+
+abbrev pub codeAt : Columns
+codeAt = 62 ⋯ 66
+
+abbrev pub headerTable : List Entry
+headerTable = x classificationAt ∷ x dateAt ∷ x codeAt ∷ []
+
+abbrev pub headerOf : Header
+headerOf = record { classification = standing classificationAt; date = standing dateAt; code = standing codeAt }
+
+abbrev pub remarkTextAt : ℕ
+remarkTextAt = 11
+
+abbrev pub remarkTable : List Entry
+remarkTable = u (7 ⋯ 10) ∷ known (7 ⋯ 10) ∷ t-rest remarkTextAt ∷ []
+
+abbrev pub remarkOf : List ℕ → Remark
+remarkOf l = record { number = unsignedAt l (7 ⋯ 10); text = endTextFrom l remarkTextAt }
 
 abbrev pub lexedRemark : List ℕ → List ℕ → Lexed
 lexedRemark l remarks = lexedBy (record { line = l; remarks = remarks }) remarkTable (LexItem.Remark (remarkOf l))

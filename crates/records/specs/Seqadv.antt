@@ -49,8 +49,12 @@ seqadvHead =
     ∷ t (29 ⋯ 38)
     ∷ []
 
+-- columns that can't fault are named once, for the table and for the record
+abbrev pub seqadvCommentAt : ℕ
+seqadvCommentAt = 49
+
 abbrev pub seqadvTable : Bool → List Entry
-seqadvTable target = seqadvHead ++ targetTable target ++ t-rest 49 ∷ []
+seqadvTable target = seqadvHead ++ targetTable target ++ t-rest seqadvCommentAt ∷ []
 
 abbrev pub seqadvOf : List ℕ → Seqadv
 seqadvOf l = record {
@@ -62,8 +66,11 @@ seqadvOf l = record {
   database = textAt l (24 ⋯ 28);
   accession = textAt l (29 ⋯ 38);
   target = targetOf (hasTarget l) l;
-  comment = textFrom l 49;
+  comment = textFrom l seqadvCommentAt;
 }
+
+abbrev pub modresCommentAt : ℕ
+modresCommentAt = 29
 
 abbrev pub modresTable : List Entry
 modresTable =
@@ -73,7 +80,7 @@ modresTable =
     ∷ i (18 ⋯ 22)
     ∷ c? 22
     ∷ t (24 ⋯ 27)
-    ∷ t-rest 29
+    ∷ t-rest modresCommentAt
     ∷ []
 
 abbrev pub modresOf : List ℕ → Modres
@@ -84,5 +91,5 @@ modresOf l = record {
   number = signedAt l (18 ⋯ 22);
   insertion = optionalAt l 22;
   standard = textAt l (24 ⋯ 27);
-  comment = textFrom l 29;
+  comment = textFrom l modresCommentAt;
 }

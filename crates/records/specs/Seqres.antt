@@ -12,8 +12,12 @@ use Rattle.lexitem.specs.Columns.{_⋯_}
 use Rattle.field.specs.Table.Entry.{u, c, triples}
 use Rattle.lexitem.specs.declared.seqres.Seqres.{Seqres}
 
+-- a column that can't fault is named once, for the table and for the record
+abbrev pub triplesAt : ℕ
+triplesAt = 19
+
 abbrev pub seqresTable : List Entry
-seqresTable = u (7 ⋯ 10) ∷ c 11 ∷ u (13 ⋯ 17) ∷ triples 19 ∷ []
+seqresTable = u (7 ⋯ 10) ∷ c 11 ∷ u (13 ⋯ 17) ∷ triples triplesAt ∷ []
 
 -- three blanks at a column
 unfoldable pub blankTriple : List ℕ → ℕ → Bool
@@ -24,9 +28,9 @@ unfoldable pub triplesFrom : ℕ → ℕ → List ℕ → ℕ
 triplesFrom ℕ.zero at l = 0
 triplesFrom (suc k) at l = cond (leb (at + 3) (length l) && not (blankTriple l at)) (suc (triplesFrom k (at + 4) l)) 0
 
--- thirteen start from 19 to 67
+-- thirteen start from 19 to 67; the last ends at 70, below 71, so that only the line's length counts
 abbrev pub triplesOf : List ℕ → ℕ
-triplesOf l = triplesFrom 13 19 l
+triplesOf l = triplesFrom 13 triplesAt l
 
 abbrev pub seqresOf : List ℕ → Seqres
 seqresOf l = record {

@@ -14,7 +14,7 @@ use Rattle.lexitem.specs.declared.ssbond.Tail.{Tail}
 use Rattle.lexitem.specs.declared.ssbond.SSBond.{SSBond}
 use Rattle.lexitem.specs.declared.columns.Columns.{Columns}
 use Rattle.lexitem.specs.declared.fault.Faults.{Faults}
-use Rattle.lexitem.specs.declared.ssbond.Tail.the-variants.{Bond, NoBond}
+use Rattle.lexitem.specs.declared.ssbond.Tail.the-variants.{Bond, NoTail}
 use Rattle.records.specs.Lexed.{lineNoted}
 use Rattle.records.specs.declared.ssbond.GotResidue.{GotResidue}
 use Rattle.records.specs.declared.ssbond.GotTail.{GotTail}
@@ -28,7 +28,7 @@ tailTable false = []
 
 abbrev pub tailOf : Bool → List ℕ → Tail
 tailOf true l = Bond (textAt l (59 ⋯ 65)) (textAt l (66 ⋯ 72)) (realAt l (73 ⋯ 78) zeroReal)
-tailOf false l = NoBond
+tailOf false l = NoTail
 
 abbrev pub gotTail : List ℕ → Faults → GotTail
 gotTail l fs = record { value = tailOf (hasTail l) l; faults = lineNoted l (tailTable (hasTail l)) fs }

@@ -31,12 +31,16 @@ scaleOf row l = record { row = row; values = rowOf l }
 abbrev pub origxOf : ℕ → List ℕ → OrigX
 origxOf row l = record { row = row; values = rowOf l }
 
+-- a column that can't fault is named once, for the table and for the record
+abbrev pub givenAt : ℕ
+givenAt = 59
+
 abbrev pub mtrixTable : List Entry
-mtrixTable = u (7 ⋯ 10) ∷ rowTable ++ given 59 ∷ []
+mtrixTable = u (7 ⋯ 10) ∷ rowTable ++ given givenAt ∷ []
 
 -- a byte past the line's end is no `1`
 abbrev pub givenOf : List ℕ → Bool
-givenOf l = eqb (getD l 59 0) 49
+givenOf l = eqb (getD l givenAt 0) 49
 
 abbrev pub mtrixOf : ℕ → List ℕ → MtriX
 mtrixOf row l = record { row = row; serial = unsignedAt l (7 ⋯ 10); values = rowOf l; given = givenOf l }

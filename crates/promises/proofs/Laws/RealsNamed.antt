@@ -24,7 +24,7 @@ use Rattle.field.specs.Number.{numberFaults, unsignedFromFaults, unsignedAt, is
 use Rattle.field.specs.Text.{textFaults, characterFaults}
 use Rattle.field.specs.Charge.{charged, isSign, chargeFaults, chargeFaultsOf, isKnown, knownFaults}
 use Rattle.field.specs.Table.{Given, Entry, faultsBy, tableFaults}
-use Rattle.field.specs.Table.Entry.{u, i, r, t, c, c?, a, u-rest, x, t-rest, charge, known, given, unwritten, triples}
+use Rattle.field.specs.Table.Entry.{u, i, r, t, c, c?, a, u-rest, x, t-within, t-rest, charge, known, given, unwritten, triples}
 use Rattle.promises.specs.Reals.{names, namedBy}
 
 -- ---- the entries that can
@@ -46,6 +46,7 @@ may at (c? column) = single at
 may at (a columns) = same at columns
 may at (u-rest start) = eqb start (at .start)
 may at (x columns) = false
+may at (t-within columns) = false
 may at (t-rest start) = false
 may at (charge columns) = single at
 may at (known columns) = same at columns
@@ -122,6 +123,7 @@ module _ (at : Columns) where
   entry-clear g (u-rest start) e =
       unless-clear (isU (unsignedOf (restOf (g .line) start))) (wrongAt USort (restColumns (g .line) start)) (rw e refl)
   entry-clear g (x columns) e = none-named
+  entry-clear g (t-within columns) e = none-named
   entry-clear g (t-rest start) e = none-named
   entry-clear g (charge columns) e = charge-clear (g .line) columns e
   entry-clear g (known columns) e =

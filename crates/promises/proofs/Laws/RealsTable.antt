@@ -21,7 +21,7 @@ use Rattle.lexitem.specs.declared.columns.Columns.{Columns}
 use Rattle.lexitem.specs.declared.item.LexItem.the-variants as item
 use Rattle.field.specs.Number.{realAt, factorAt, orR}
 use Rattle.field.specs.Table.{Entry}
-use Rattle.field.specs.Table.Entry.{u, i, r, t, c, c?, a, u-rest, x, t-rest, charge, known, given, unwritten, triples}
+use Rattle.field.specs.Table.Entry.{u, i, r, t, c, c?, a, u-rest, x, t-within, t-rest, charge, known, given, unwritten, triples}
 use Rattle.records.specs.Crystal.{hasZ, crystalTable, crystalOf}
 use Rattle.records.specs.Seqadv.{hasTarget, seqadvTable}
 use Rattle.records.specs.Ssbond.{hasTail, ssbondTable, tailOf}
@@ -95,6 +95,7 @@ isReal (c? column) = false
 isReal (a columns) = true
 isReal (u-rest start) = false
 isReal (x columns) = false
+isReal (t-within columns) = false
 isReal (t-rest start) = false
 isReal (charge columns) = false
 isReal (known columns) = false
