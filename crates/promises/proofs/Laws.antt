@@ -6,6 +6,7 @@ pub mod Reals
 pub mod Format
 pub mod Agreeing
 pub mod Refusing
+pub mod Few
 pub mod Faults
 pub mod Edges
 pub mod One

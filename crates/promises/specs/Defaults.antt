@@ -11,7 +11,7 @@ use Rattle.lexitem.specs.declared.dbref.Segment.{Segment}
 use Rattle.lexitem.specs.declared.seqadv.Target.{Target}
 use Rattle.lexitem.specs.declared.seqadv.Target.the-variants.{Residue, NoResidue}
 use Rattle.lexitem.specs.declared.ssbond.Tail.{Tail}
-use Rattle.lexitem.specs.declared.ssbond.Tail.the-variants.{Bond, NoBond}
+use Rattle.lexitem.specs.declared.ssbond.Tail.the-variants.{Bond, NoTail}
 use Rattle.lexitem.specs.declared.text.Character.{Character}
 use Rattle.lexitem.specs.declared.text.Character.the-variants.{At, Unreached, Absent}
 use Rattle.lexitem.specs.declared.text.Text.{Text}
@@ -176,7 +176,7 @@ defaults =
     }))
     ∷ faults ((2, 18, 4) ∷ [])
     ∷ [])
-    ∷ on (filled 36 (bytes "SSBOND")) (ssbond NoBond ∷ faults ((2, 17, 4) ∷ (2, 31, 4) ∷ []) ∷ [])
+    ∷ on (filled 36 (bytes "SSBOND")) (ssbond NoTail ∷ faults ((2, 17, 4) ∷ (2, 31, 4) ∷ []) ∷ [])
     ∷ on (filled 78 (bytes "SSBOND")) (ssbond (Bond none none zero) ∷ faults ((2, 17, 4) ∷ (2, 31, 4) ∷ (2, 73, 5) ∷ []) ∷ [])
     ∷ on (bytes "REMARK 999 ") (is (item.Remark (record { number = 999; text = none })) ∷ faults [] ∷ [])
     -- a number that isn't in the table, and one that is faulted, which is looked up as 0

@@ -24,7 +24,7 @@ use Rattle.lexitem.specs.declared.fault.Fault.{Fault}
 use Rattle.lexitem.specs.declared.item.LexItem.{LexItem}
 use Rattle.lexitem.specs.declared.item.LexItem.the-variants as item
 use Rattle.lexitem.specs.declared.ssbond.Tail.{Tail}
-use Rattle.lexitem.specs.declared.ssbond.Tail.the-variants.{Bond, NoBond}
+use Rattle.lexitem.specs.declared.ssbond.Tail.the-variants.{Bond, NoTail}
 use Rattle.lexitem.specs.declared.transformation.Row.{Row}
 use Rattle.field.specs.Number.{zeroReal, oneReal}
 
@@ -55,7 +55,7 @@ rowReals x = real (10 ⋯ 20) (x .a) ∷ real (20 ⋯ 30) (x .b) ∷ real (30 �
 -- the bond's length, if the line has it
 abbrev pub tailReals : Tail → List RealField
 tailReals (Bond first second length) = real (73 ⋯ 78) length ∷ []
-tailReals NoBond = []
+tailReals NoTail = []
 
 abbrev pub realsOf : LexItem → List RealField
 realsOf item.Empty = []

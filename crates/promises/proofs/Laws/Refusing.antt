@@ -30,7 +30,7 @@ use Rattle.lexer.specs.Item.{itemOf}
 use Rattle.lexer.specs.Lexed.{refused, accepted, firstOf, lexed}
 use Rattle.lexer.specs.Refusals.{Input, Row, kind, faults, rows}
 use Rattle.promises.specs.Refusing.{Rule, Least, Silent, First, Passed, rules, tableRule, lengthRule, byteRule, headerRule, remarkRule, leastRule, faultRule}
-use Rattle.promises.proofs.Laws.Agreeing.{AllAgree, fault-row, rules-agree}
+use Rattle.promises.proofs.Laws.Agreeing.{AllAgree, rules-agree}
 
 -- ---- the first row that holds is the first rule that does
 not-both : {x : LexItem} {r : Refusal} → Refused r ≡ Accepted x → ⊥
