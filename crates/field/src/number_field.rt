@@ -2,7 +2,6 @@
 ghost use mathlib.Core.Path.{_≡_};
 ghost use lib.Dec.{ltb};
 ghost use lib.ListN.{length};
-ghost use Rattle.lexitem.specs.Faults.{allNoted};
 ghost use Rattle.field.specs.Number as specs;
 use lexitem::columns::Columns;
 use lexitem::columns::from_column;

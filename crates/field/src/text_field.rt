@@ -12,7 +12,6 @@ use lexitem::fault::FaultKind;
 use lexitem::fault::Faults;
 use lexitem::text::Character;
 use lexitem::text::Text;
-use number::trim::Span;
 use number::trim::kept_length;
 use number::trim::read_text;
 

@@ -1,6 +1,5 @@
 -- What lexing a line answers: the first refusal whose row holds, with no record and an empty fault list; else the record of its kind, with the
 -- faults of its kind's table. The line's number is handed through.
-use Prim.Native.Nat.{ℕ}
 use mathlib.Core.Bool.{cond}
 use mathlib.Core.List.{List, [], _∷_}
 use Rattle.lexitem.specs.Faults.{noFaults, allNoted}

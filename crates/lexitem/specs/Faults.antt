@@ -1,5 +1,5 @@
 -- "1 line ends before the field's last column; 2 text of the wrong sort; 3 charge not a digit; 4 charge unsigned; 5 remark number not in the
--- table. Place and length are the field's columns. The list holds 16 beside the record."
+-- table. Place and length are the field's columns", in "a list of 16 beside the record".
 use Prim.Native.Nat.{ℕ, _+_}
 use mathlib.Core.Bool.{cond}
 use mathlib.Core.List.{List, [], _∷_}

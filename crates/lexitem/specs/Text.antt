@@ -5,7 +5,6 @@ use mathlib.Core.Bool.{cond}
 use mathlib.Core.List.{List, []}
 use lib.ListN.{length, take, drop}
 use lib.Dec.{leb}
-use Rattle.lexitem.specs.declared.text.Text.{Text}
 use Rattle.lexitem.specs.declared.text.Character.{Character}
 use Rattle.lexitem.specs.declared.text.Character.the-variants.{At, Unreached, Absent}
 use Rattle.lexitem.specs.declared.text.Field.{Field}

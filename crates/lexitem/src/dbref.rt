@@ -4,7 +4,7 @@ use crate::columns::Columns;
 use crate::text::Character;
 use crate::text::Text;
 
-// Where a stretch of a sequence begins and ends.
+// Where a stretch of a sequence begins and ends. The characters are insertion codes.
 pub struct Segment {
     pub begin: i64,
     pub opening: Character,
@@ -86,7 +86,7 @@ impl Dbref {
     }
 }
 
-// A DBREF1: its segment ends a column later than a DBREF's.
+// A DBREF1: the number of its segment's end begins a column later than a DBREF's.
 pub struct Dbref1 {
     pub code: Text,
     pub chain: Text,

@@ -26,8 +26,6 @@ impl Seqres {
 
     pub const WIDTH: usize = 3;
 
-    pub const LIMIT: usize = 71;
-
     pub const MOST: usize = 13;
 
     pub fn new(serial: u64, chain: Character, residues: u64, triples: usize) -> Self

@@ -32,7 +32,7 @@ pub enum Tail {
         second: Text,
         length: f64,
     },
-    NoBond,
+    NoTail,
 }
 
 // An SSBOND.

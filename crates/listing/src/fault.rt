@@ -23,7 +23,7 @@ fn put_fault(out: &mut [u8], at: usize, fault: Fault) -> usize
 }
 
 // The first so many of a list.
-pub fn put_faults(out: &mut [u8], at: usize, faults: [Fault; 16], count: usize) -> usize
+pub(crate) fn put_faults(out: &mut [u8], at: usize, faults: [Fault; 16], count: usize) -> usize
     requires { ⌜ count ≤ 16 ⌝ }
     ensures { λ r. ⌜ page (now (out .exit)) r ≡ put (page (now (out .entry)) at) (specs.faultsBytes (take count faults)) ⌝ }
 {

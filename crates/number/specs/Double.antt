@@ -1,4 +1,5 @@
--- "The double is one division of M by a power of ten, with the sign put on; bytes `-0` give negative zero."
+-- "The powers 10^0 to 10^9 stand as typed-in doubles", and "bytes `-0` give negative zero": the double is one division of M by a power of ten,
+-- with the sign put on.
 use Prim.Native.Nat.{ℕ, _^_}
 use mathlib.Core.Bool.{Bool, true, false}
 use lib.IntN.{pos}

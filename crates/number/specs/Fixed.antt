@@ -68,7 +68,7 @@ abbrev pub shapeAt : ℕ → Bool → ℕ → Shape
 shapeAt n minus k =
     record { bytes = wordOf (shapeBytes n minus k); slack = wordOf (slacks (shapeBytes n minus k)); minus = minus }
 
--- the shapes by the guess; a minus alone is guessed of no bytes, and the last is that of any other guess
+-- the shapes by the guess: no bytes give the guess 1, and the last shape is that of every other guess
 abbrev pub shapes : List Shape
 shapes =
     shapeAt 0 false 4

@@ -1,5 +1,5 @@
 -- "U: an optional `+` and one or more digits, at most 2^64-1. I: the same with `+` or `-`, within 64 bits."
-use Prim.Native.Nat.{ℕ, suc, _+_, _-_, _*_, _^_}
+use Prim.Native.Nat.{ℕ, _+_, _-_, _*_, _^_}
 use mathlib.Core.Bool.{Bool, true, false, cond, _&&_, _||_}
 use mathlib.Core.List.{List, [], _∷_}
 use lib.ListN.{length, drop}

@@ -2,7 +2,7 @@
 // powers are exact as doubles, so the quotient is rounded once.
 ghost use mathlib.Core.Path.{_≡_};
 ghost use Prim.Native.Nat.{_≤_, _<_, _^_};
-ghost use lib.IntN.{ℤ, pos, natAbs};
+ghost use lib.IntN.{pos, natAbs};
 ghost use lib.Ieee.{binary64, ofInt};
 ghost use Rattle.number.specs.Double.{doubleOf};
 ghost use Rattle.number.specs.Fixed.{Limits, SaysReal};

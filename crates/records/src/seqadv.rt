@@ -1,7 +1,7 @@
 // SEQADV and MODRES.
 ghost use mathlib.Core.Path.{_≡_};
 ghost use Rattle.records.specs.Seqadv as specs;
-ghost use Rattle.records.specs.Lexed.{alone, lineNoted, lexedBy};
+ghost use Rattle.records.specs.Lexed.{alone, lexedBy};
 use crate::Lexed;
 use field::number_field::signed;
 use field::text_field::character;

@@ -1,7 +1,7 @@
 // SSBOND. Its serial number is not read.
 ghost use mathlib.Core.Path.{_≡_};
 ghost use Rattle.records.specs.Ssbond as specs;
-ghost use Rattle.records.specs.Lexed.{alone, lineNoted, lexedBy};
+ghost use Rattle.records.specs.Lexed.{alone, lexedBy};
 use crate::Lexed;
 use field::number_field::real;
 use field::number_field::signed;
@@ -53,7 +53,7 @@ fn lex_tail(line: &[u8], faults: Faults) -> GotTail
 {
     if line.len() < SSBond::LENGTH.end as usize {
         return GotTail {
-            value: Tail::NoBond,
+            value: Tail::NoTail,
             faults,
         };
     }

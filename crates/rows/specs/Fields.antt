@@ -1,7 +1,7 @@
 -- The fields of a record, each with its first column, ascending. "Every field of a kind's row is present (Z and given always), except an absent
 -- C, an SSBOND or SEQADV part not read, and triples not read." What isn't present has its column here and shows nothing.
 use Prim.Native.Nat.{ℕ, suc, _+_, _*_}
-use mathlib.Core.Bool.{Bool, cond}
+use mathlib.Core.Bool.{cond}
 use mathlib.Core.List.{List, [], _∷_, _++_}
 use lib.Dec.{ltb}
 use Rattle.lexitem.specs.declared.atom.Anisou.{Anisou}
@@ -24,7 +24,7 @@ use Rattle.lexitem.specs.declared.seqadv.Target.the-variants.{Residue, NoResidu
 use Rattle.lexitem.specs.declared.seqres.Seqres.{Seqres}
 use Rattle.lexitem.specs.declared.ssbond.SSBond.{SSBond}
 use Rattle.lexitem.specs.declared.ssbond.Tail.{Tail}
-use Rattle.lexitem.specs.declared.ssbond.Tail.the-variants.{Bond, NoBond}
+use Rattle.lexitem.specs.declared.ssbond.Tail.the-variants.{Bond, NoTail}
 use Rattle.lexitem.specs.declared.transformation.MtriX.{MtriX}
 use Rattle.lexitem.specs.declared.transformation.OrigX.{OrigX}
 use Rattle.lexitem.specs.declared.transformation.Row.{Row as Transformation}
@@ -214,15 +214,15 @@ modresFields m =
 -- the symmetry operators and the bond's length, if the line has them
 abbrev pub tailFirst : Tail → Value
 tailFirst (Bond first second length) = Words first
-tailFirst NoBond = Nothing
+tailFirst NoTail = Nothing
 
 abbrev pub tailSecond : Tail → Value
 tailSecond (Bond first second length) = Words second
-tailSecond NoBond = Nothing
+tailSecond NoTail = Nothing
 
 abbrev pub tailLength : Tail → Value
 tailLength (Bond first second length) = Real length
-tailLength NoBond = Nothing
+tailLength NoTail = Nothing
 
 abbrev pub ssbondFields : SSBond → List Row
 ssbondFields s =

@@ -16,7 +16,7 @@ fn tail_first(tail: Tail) -> Value
             second: _,
             length: _,
         } => Value::Words(first),
-        Tail::NoBond => Value::Nothing,
+        Tail::NoTail => Value::Nothing,
     }
 }
 
@@ -29,7 +29,7 @@ fn tail_second(tail: Tail) -> Value
             second,
             length: _,
         } => Value::Words(second),
-        Tail::NoBond => Value::Nothing,
+        Tail::NoTail => Value::Nothing,
     }
 }
 
@@ -42,7 +42,7 @@ fn tail_length(tail: Tail) -> Value
             second: _,
             length,
         } => Value::Real(length),
-        Tail::NoBond => Value::Nothing,
+        Tail::NoTail => Value::Nothing,
     }
 }
 

@@ -18,8 +18,8 @@ use lib.Signed.{mag}
 use mir.Syntax.{w64}
 use mir.Val.{toZ, ofZ}
 use mir.Facts.{toZ-ofZ}
-use Rattle.number.specs.Trim.{white, leading, kept, trimmed, endTrimmed, spanOf}
-use Rattle.number.specs.Whole.{digit, digits, valueFrom, begins, afterPlus, afterSign, digitsOf, unsignedOf, signedDigits, signedOf, withSign}
+use Rattle.number.specs.Trim.{leading, kept, trimmed, endTrimmed, spanOf}
+use Rattle.number.specs.Whole.{digit, digits, begins, afterPlus, afterSign, digitsOf, unsignedOf, signedDigits, signedOf, withSign}
 use Rattle.number.specs.Decimal.{beforePoint, behindPoint, withoutPoint, plainOf, decimalOf}
 use Rattle.number.specs.Real.{realOf, tenThousandthsOf}
 use Rattle.number.specs.declared.trim.Span.{Span}

@@ -5,7 +5,7 @@
 --     charge-one, charge-two                  a charge that isn't has one fault, and both its columns are there
 --     all-fine                                a table of fine fields notes nothing
 -- Assumes nothing.
-use Prim.Native.Nat.{ℕ, _+_, _-_}
+use Prim.Native.Nat.{ℕ, _+_}
 use mathlib.Core.Path.{_≡_, refl}
 use mathlib.Core.Bool.{Bool, true, false, cond, not, _&&_}
 use mathlib.Core.List.{List, [], _∷_}

@@ -1,5 +1,5 @@
 -- A table's faults noted field after field are the plain list noted. Assumes nothing.
-use mathlib.Core.Path.{_≡_, refl, ap, _∙_}
+use mathlib.Core.Path.{_≡_, refl}
 use mathlib.Core.List.{List, [], _∷_, _++_}
 use Rattle.lexitem.specs.Faults.{noted, allNoted}
 use Rattle.lexitem.specs.declared.fault.Fault.{Fault}

@@ -5,7 +5,7 @@
 --     own-rows     rows 4 to 7, and what is accepted behind them
 -- Assumes nothing.
 use Prim.Native.Nat.{ℕ, _-_, _<_, _≤_}
-use mathlib.Core.Path.{_≡_, refl, sym, ap, _∙_}
+use mathlib.Core.Path.{_≡_, refl, sym, _∙_}
 use mathlib.Core.Bool.{Bool, true, false, cond, not, _&&_}
 use mathlib.Core.List.{List, [], _∷_}
 use native.Mathlib.Omega.{arith}
@@ -18,12 +18,11 @@ use Rattle.field.proofs.Laws.Table.{table-noted}
 use Rattle.lexitem.specs.Faults.{noFaults, allNoted}
 use Rattle.lexitem.specs.declared.answer.Answer.{Answer}
 use Rattle.lexitem.specs.declared.answer.Refusal.{Refusal}
-use Rattle.lexitem.specs.declared.fault.Faults.{Faults}
 use Rattle.lexitem.specs.declared.item.LexItem.{LexItem}
 use Rattle.records.specs.Lexed.{alone, lexedBy}
 use Rattle.lexitem.proofs.Laws.Faults.{count-test, noted-over}
-use Rattle.lexer.specs.Item.{tableOf, partial, itemOf, faultsOf}
-use Rattle.lexer.specs.Refusals.{Input, Row, kind, given, plain, faults, boundOf, headerCut, remarkLong, missing, row, rows, seventeenth}
+use Rattle.lexer.specs.Item.{tableOf, partial, faultsOf}
+use Rattle.lexer.specs.Refusals.{Input, kind, given, plain, faults, boundOf, headerCut, remarkLong, missing, row, rows, seventeenth}
 use Rattle.lexer.specs.Lexed.{refused, accepted, firstOf, lexed}
 use Rattle.lexer.specs.Steps.{refusal, noRefusal, ownRefusal, headerRefusal, remarkRefusal, leastRefusal, lexedAs, refusedWith, answerOf, readAs}
 use Rattle.lexer.specs.declared.bound.Bound.{Bound}

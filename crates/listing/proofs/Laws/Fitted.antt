@@ -14,7 +14,6 @@ use Rattle.lexitem.specs.declared.answer.Refusal.{Refusal}
 use Rattle.page.specs.Page.{Page, page, put}
 use Rattle.page.proofs.Laws.Page.{put-count, put-front}
 use Rattle.listing.specs.Listed.{Fitted, fittedAnswer, fittedBytes}
-use Rattle.listing.specs.declared.Listed.{Listed}
 use Rattle.listing.specs.declared.Listed.the-variants.{Written, Refused}
 
 module _ (room : ℕ) (listing : List ℕ) (short : length listing < 2 ^ 64) (one mark : List ℕ) (n : ℕ) (e : page mark n ≡ put (page one 0) listing) where

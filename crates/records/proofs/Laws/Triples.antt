@@ -1,12 +1,11 @@
 -- Laws of SEQRES's triples, n of the thirteen passed. Assumes nothing.
 use Prim.Native.Nat.{ℕ, suc, _+_, _-_, _<_, _≤_}
-use mathlib.Core.Path.{_≡_, refl, ap, _∙_}
-use mathlib.Core.Bool.{Bool, true, false, cond, not, _&&_}
+use mathlib.Core.Path.{_≡_, refl}
+use mathlib.Core.Bool.{true, false}
 use mathlib.Core.List.{List}
 use native.Mathlib.Omega.{arith}
 use borrow.Author.Tests.{le-leb, lt-leb}
 use lib.ListN.{length}
-use lib.Dec.{leb}
 use Rattle.records.specs.Seqres.{blankTriple, triplesFrom}
 
 one-less : (n : ℕ) → n < 13 → 13 - n ≡ suc (13 - (n + 1))

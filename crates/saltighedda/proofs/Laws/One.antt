@@ -18,7 +18,7 @@ use Rattle.lexitem.specs.declared.answer.Outcome.{Outcome}
 use Rattle.lexitem.specs.declared.answer.Outcome.the-variants as outcome
 use Rattle.lexitem.specs.declared.answer.Refusal.{Refusal}
 use Rattle.lexitem.specs.declared.item.LexItem.{LexItem}
-use Rattle.listing.specs.Listed.{fittedAnswer, listedAnswer, listingBy}
+use Rattle.listing.specs.Listed.{listedAnswer, listingBy}
 use Rattle.listing.specs.Listing.{longest}
 use Rattle.listing.specs.declared.Listed.{Listed}
 use Rattle.listing.specs.declared.Listed.the-variants.{Written, Refused}
