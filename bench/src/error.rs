@@ -1,4 +1,4 @@
-//! Stands in for the crate's `error`, which isn't among the papers. The crate's own context keeps a copy of the line; with
+//! Stands in for the crate's `error`, which isn't carried along. The crate's own context keeps a copy of the line; with
 //! `--cfg copying` this one does too, and without it keeps nothing.
 
 /// How bad an error is; lexer.rs uses these three levels.

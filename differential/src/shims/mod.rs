@@ -1,4 +1,4 @@
-//! What lexer.rs names and what isn't among the papers, as small as it can be:
+//! What lexer.rs names and what isn't in its folder, as small as it can be:
 //! the error types, the options, and a remark table that can be lent.
 
 pub mod error;

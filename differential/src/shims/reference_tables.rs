@@ -2,7 +2,7 @@
 //! a table that is lent to this thread, as it is lent to the port.
 //!
 //! The crate's own 42 numbers come from its reference_tables.rs, which is compiled unchanged.
-//! Three tables of crystal symbols that it includes aren't among the papers; a macro of the same
+//! Three tables of crystal symbols that it includes aren't beside it; a macro of the same
 //! name puts an empty table in the place of each.
 
 use std::cell::Cell;
