@@ -17,8 +17,9 @@
  *     ..
  *
  * A field that a fault of kind 1 to 4 names has its default, and was not read; 5 says only that the number isn't in the table. A
- * real that no fault names was read. Three fields may be unwritten without a fault: Z is 1 in a CRYST1 of 66 bytes or less, an
- * atom's charge is 0 under 80 bytes or where it is two blanks, and MTRIX's f59 is 0 under 60. The kinds of faults:
+ * real that no fault names was read. Apart from texts that end with the line, three fields may be unwritten without a fault: Z is 1
+ * in a CRYST1 of 66 bytes or less, an atom's charge is 0 under 80 bytes or where it is two blanks, and MTRIX's f59 is 0 under 60.
+ * The kinds of faults:
  *
  *     1  the line ends before the field's last column
  *     2  the columns hold no number of the field's sort
