@@ -6,11 +6,12 @@ PREFIX ?= /usr/local
 FILE ?= examples/zinc.pdb
 
 program := target/bin/pdblist
+server := target/bin/serve
 library := target/staticlib/libsaltighedda.a
 sources := crates.txt $(shell find crates -type f)
 
 .NOTPARALLEL:
-.PHONY: help list test format contracts hosts compare oracle differential bench install
+.PHONY: help list test needs format contracts hosts compare oracle differential bench install
 
 help:
 	@echo 'make list FILE=..        lists the lines of a PDB file, and what could not be read of them'
@@ -22,7 +23,7 @@ help:
 	@echo 'make oracle              builds the Rust as an oracle and runs its own tests'
 
 list: $(program)
-	@$(program) < '$(FILE)'
+	@tools/run $(program) < '$(FILE)'
 
 # Says nothing but what went wrong. A program is built once it is proved, and so is the library.
 define quietly
@@ -32,18 +33,22 @@ define quietly
 	touch $@
 endef
 
-$(program): $(sources)
-	$(call quietly,rt check pdblist)
+$(program) $(server): $(sources)
+	$(call quietly,rt check $(@F))
 
 $(library): $(sources)
 	$(call quietly,rt staticlib saltighedda)
 
-# The rest is tried once the proofs hold. Their own count of what passed and what failed is the last line printed.
-test: format contracts
+# What will be left out is told first, and the rest is tried once the proofs hold. Their own count of what passed and what failed is the
+# last line printed.
+test: needs format contracts
 	@log=$$(mktemp); trap 'rm -f "$$log"' EXIT; \
 	rt ci | tee "$$log"; \
 	$(MAKE) --no-print-directory hosts compare; \
 	tail -n 1 "$$log"
+
+needs:
+	@tests/needs.sh
 
 format:
 	@rt fmt --check
@@ -53,19 +58,20 @@ contracts:
 	@tests/promises.sh
 
 hosts: $(program) $(library)
+	@tests/run.sh
 	@tests/pdblist.sh
 	@tests/c.sh
 
-compare: $(library)
+compare: $(server)
 	@differential/short.sh
 
 oracle:
 	@differential/build.sh --test
-	@differential/build.sh --without-port
-
-differential: $(library)
 	@differential/build.sh
-	@target/differential/differential --file examples/zinc.pdb
+
+differential: $(server)
+	@differential/build.sh
+	@target/differential/differential --file examples/zinc.pdb -- tools/run $(server)
 
 bench:
 	@bench/run.sh
@@ -76,3 +82,4 @@ install: $(program) $(library)
 	@install -m 644 include/saltighedda.h '$(DESTDIR)$(PREFIX)/include/saltighedda.h'
 	@install -m 644 $(library) '$(DESTDIR)$(PREFIX)/lib/libsaltighedda.a'
 	@sed 's|@PREFIX@|$(PREFIX)|' saltighedda.pc.in > '$(DESTDIR)$(PREFIX)/lib/pkgconfig/saltighedda.pc'
+	@[ "$$(uname -m)" = x86_64 ] || echo "install: the program and the library are for x86-64, and this machine is $$(uname -m)"

@@ -1,21 +1,17 @@
 #!/bin/bash
-# A million lines compared with the Rust, where rustc and the Rust's files are there. See README.md.
+# A million lines compared with the Rust, where rustc and the Rust's files are there. Wants target/bin/serve. See README.md.
 set -eu
-here=$(cd "$(dirname "${BASH_SOURCE[0]}")" && pwd)
-repository=$(dirname "$here")
+cd "$(dirname "${BASH_SOURCE[0]}")/.."
+. tests/have.sh
 
-if ! command -v "${RUSTC:-rustc}" > /dev/null; then
-    echo "differential: there is no rustc: the port is not compared with the Rust"
-    exit 0
-fi
-if [ ! -f "${PDBTBX_SRC:-$repository/../shared/docs/src}/src/read/pdb/lexer.rs" ]; then
-    echo "differential: the Rust's files aren't there, and PDBTBX_SRC names no folder: the port is not compared with the Rust"
+if why=$(missing rust); then
+    echo "differential: left out: $why"
     exit 0
 fi
 log=$(mktemp)
 trap 'rm -f "$log"' EXIT
-"$here/build.sh"
-"$repository/target/differential/differential" --short --file "$repository/examples/zinc.pdb" > "$log" || {
+differential/build.sh
+target/differential/differential --short --file examples/zinc.pdb -- tools/run target/bin/serve > "$log" || {
     cat "$log"
     exit 1
 }

@@ -1,13 +1,16 @@
 #!/bin/bash
-# The C face from C: the edges of its entries, the example host on the sample file, and an installation as a C programmer uses it.
-# Wants target/staticlib/libsaltighedda.a and target/bin/pdblist. Prints a line for each thing that holds; the status is 1 if one doesn't.
+# The C face from C: the edges of its entries, the example host on the sample file, and an installation as a C programmer uses it. All is
+# compiled for x86-64, as the library is. Wants target/staticlib/libsaltighedda.a and target/bin/pdblist. Prints a line for each thing that
+# holds; the status is 1 if one doesn't.
 set -eu
 cd "$(dirname "${BASH_SOURCE[0]}")/.."
+. tests/have.sh
+run=$PWD/tools/run
 folder=$(mktemp -d)
 trap 'rm -rf "$folder"' EXIT
 
-if ! command -v "${CC:=cc}" > "$folder/which"; then
-    echo "c: there is no $CC: the C face is not tried"
+if why=$(missing c); then
+    echo "c: left out: $why"
     exit 0
 fi
 warned="-std=c11 -Wall -Wextra -Werror"
@@ -26,36 +29,36 @@ told() {
 }
 
 $CC $warned -Iinclude -o "$folder/face" tests/face.c target/staticlib/libsaltighedda.a
-"$folder/face" || fail "an entry isn't as the header says"
+"$run" "$folder/face" || fail "an entry isn't as the header says"
 echo "c: the entries are as the header says"
 
 $CC $warned -Iinclude -o "$folder/host" examples/host.c target/staticlib/libsaltighedda.a
-told "$folder/host"
+told "$run" "$folder/host"
 status=0
-"$folder/host" "$folder/none" 2> "$folder/why" || status=$?
+"$run" "$folder/host" "$folder/none" 2> "$folder/why" || status=$?
 [ $status = 2 ] && [ -s "$folder/why" ] || fail "the host says nothing of a file that isn't there"
 echo "c: the host tells what was not read"
 
-if command -v valgrind > "$folder/which"; then
+if why=$(missing valgrind); then
+    echo "c: left out: $why"
+else
     memory="valgrind -q --leak-check=full --error-exitcode=9"
     $memory "$folder/face" || fail "valgrind found a fault in the use of memory"
     told $memory "$folder/host"
     echo "c: and so under valgrind"
-else
-    echo "c: there is no valgrind: not tried under it"
 fi
 
 # The name of the folder has a blank, and the build must not look into the repository.
 prefix="$folder/an installation"
 make --no-print-directory install PREFIX="$prefix" > "$folder/installed"
-if command -v pkg-config > "$folder/which"; then
+if why=$(missing pkg-config); then
+    echo "c: left out: $why"
+else
     cp examples/host.c "$folder/host.c"
     flags=$(PKG_CONFIG_PATH="$prefix/lib/pkgconfig" pkg-config --cflags --libs saltighedda)
     (cd "$folder" && eval "$CC $warned -o installed-host host.c $flags")
-    told "$folder/installed-host"
+    told "$run" "$folder/installed-host"
     echo "c: an installation serves a host through pkg-config"
-else
-    echo "c: there is no pkg-config: an installation is not tried through it"
 fi
-"$prefix/bin/pdblist" < crates/pdblist/stdin | cmp - crates/pdblist/stdout || fail "the installed pdblist printed something else"
+"$run" "$prefix/bin/pdblist" < crates/pdblist/stdin | cmp - crates/pdblist/stdout || fail "the installed pdblist printed something else"
 echo "c: the installed pdblist lists"

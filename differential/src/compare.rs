@@ -1,89 +1,112 @@
 //! Holds the port's answer to what it has to be: the listing's bytes, the count of bytes written,
 //! the refusal's three numbers, and every byte of the lent output and behind it.
 
-use crate::generate::{Input, ROOM};
-use crate::oracle::{Refusal, Verdict};
-use crate::port;
+use crate::generate::Input;
+use crate::oracle::{Oracle, Refusal, Verdict};
+use crate::port::{Answer, Port, BLOCK, OUTPUT, UNWRITTEN};
 use crate::tables::Tables;
-
-/// Bytes behind the largest output that is lent.
-const BEHIND: usize = 64;
-
-/// The output that is lent, filled with a pattern before each call.
-pub struct Desk {
-    out: Vec<u8>,
-    pattern: Vec<u8>,
-}
+use std::io;
 
 /// What the port did with one input.
 pub struct Seen {
     /// The first thing that isn't as it should be.
     pub wrong: Option<&'static str>,
     pub refusal: Refusal,
-    /// The calls for the refusal changed the output of a line that isn't refused.
-    pub wrote_when_asked: bool,
+}
+
+/// What should come of one input, and what came of it.
+pub struct Case {
+    pub verdict: Verdict,
+    pub listing: Vec<u8>,
+    pub seen: Seen,
+    /// The front of the output, as far as the port says that it wrote.
+    pub printed: Vec<u8>,
+}
+
+/// A block of inputs, asked of both sides.
+pub struct Desk {
+    oracle: Oracle,
+    port: Option<Port>,
+    inputs: Vec<Input>,
+    verdicts: Vec<(Verdict, Vec<u8>)>,
 }
 
 impl Desk {
-    pub fn new() -> Self {
-        let pattern: Vec<u8> = (0..ROOM + BEHIND).map(|at| 0xC5 ^ (at % 251) as u8).collect();
-        Desk { out: pattern.clone(), pattern }
+    /// A desk with the program that the command runs as its port, or with none.
+    pub fn new(command: &[String]) -> io::Result<Self> {
+        let port = match command {
+            [] => None,
+            command => Some(Port::start(command)?),
+        };
+        let inputs = vec![Input::new(); BLOCK];
+        Ok(Desk { oracle: Oracle::new(), port, inputs, verdicts: Vec::new() })
     }
 
-    /// Asks the port and compares. `listing` is what it should be if there is no refusal.
-    pub fn compare(
+    /// Asks both about a block of inputs, which `make` fills in, and tells each case: the input,
+    /// what it should give with its listing, and the port's answer. The oracle answers while the
+    /// port does.
+    pub fn ask(
         &mut self,
-        input: &Input,
+        count: usize,
         tables: &Tables,
-        verdict: &Verdict,
-        listing: &[u8],
-    ) -> Seen {
-        let remarks = tables.bytes(input.table);
-        let (number, options) = (input.number, input.options);
-        let listing = match verdict.refusal.number {
-            0 => listing,
-            _ => &[],
-        };
-
-        let lent = &mut self.out[..input.room];
-        let written = port::list(&input.line, number, options, remarks, lent);
-        let wrong_bytes = match written == listing.len() {
-            false => Some("the count of bytes written"),
-            true if self.out[..written] != *listing => Some("the listing"),
-            true if self.out[written..] != self.pattern[written..] => {
-                Some("the output behind the listing, or that of a refused line")
-            }
-            true => None,
-        };
-        match wrong_bytes {
-            None => self.out[..written].copy_from_slice(&self.pattern[..written]),
-            Some(_) => self.out.copy_from_slice(&self.pattern),
+        mut make: impl FnMut(usize, &mut Input),
+        mut tell: impl FnMut(&Input, &Verdict, &[u8], Option<&Answer>),
+    ) -> io::Result<()> {
+        let inputs = &mut self.inputs[..count];
+        for (at, input) in inputs.iter_mut().enumerate() {
+            make(at, input);
         }
-
-        let lent = &mut self.out[..input.room];
-        let refusal = port::refusal(&input.line, number, options, remarks, lent);
-        let touched = self.out != self.pattern;
-        if touched {
-            self.out.copy_from_slice(&self.pattern);
+        if let Some(port) = &mut self.port {
+            port.send(inputs, tables)?;
         }
-        let wrong = match () {
-            _ if refusal.number != verdict.refusal.number => Some("the refusal's number"),
-            _ if refusal.place != verdict.refusal.place => Some("the refusal's place"),
-            _ if refusal.length != verdict.refusal.length => Some("the refusal's length"),
-            _ if wrong_bytes.is_some() => wrong_bytes,
-            _ if touched && refusal.number != 0 => Some("the output of a refused line"),
-            _ => None,
-        };
-        Seen { wrong, refusal, wrote_when_asked: touched && refusal.number == 0 }
+        self.verdicts.clear();
+        for input in inputs.iter() {
+            let verdict = self.oracle.answer(input, tables);
+            self.verdicts.push((verdict, self.oracle.page.bytes.clone()));
+        }
+        if let Some(port) = &mut self.port {
+            port.receive()?;
+        }
+        for (at, (input, (verdict, listing))) in inputs.iter().zip(&self.verdicts).enumerate() {
+            let answer = self.port.as_ref().map(|port| port.answer(at));
+            tell(input, verdict, listing, answer.as_ref());
+        }
+        Ok(())
     }
 
-    /// The port's listing, however long it says that it is.
-    pub fn listing(&mut self, input: &Input, tables: &Tables) -> Vec<u8> {
-        let remarks = tables.bytes(input.table);
-        let lent = &mut self.out[..input.room];
-        let written = port::list(&input.line, input.number, input.options, remarks, lent);
-        let bytes = self.out[..written.min(ROOM)].to_vec();
-        self.out.copy_from_slice(&self.pattern);
-        bytes
+    /// Asks both about one input.
+    pub fn ask_one(&mut self, input: &Input, tables: &Tables) -> io::Result<Case> {
+        let mut case = None;
+        let make = |_, place: &mut Input| place.clone_from(input);
+        self.ask(1, tables, make, |_, verdict, listing, answer| {
+            case = answer.map(|answer| Case {
+                verdict: *verdict,
+                listing: listing.to_vec(),
+                seen: seen(verdict, listing, answer),
+                printed: answer.output[..OUTPUT.min(answer.written as usize)].to_vec(),
+            });
+        })?;
+        case.ok_or(io::Error::other("no port was named"))
     }
+}
+
+/// Compares. `listing` is what it should be if there is no refusal.
+pub fn seen(verdict: &Verdict, listing: &[u8], answer: &Answer) -> Seen {
+    let wanted = match verdict.refusal.number {
+        0 => listing,
+        _ => &[],
+    };
+    let (refusal, output) = (answer.refusal, answer.output);
+    let wrong = match () {
+        _ if refusal.number != verdict.refusal.number => Some("the refusal's number"),
+        _ if refusal.place != verdict.refusal.place => Some("the refusal's place"),
+        _ if refusal.length != verdict.refusal.length => Some("the refusal's length"),
+        _ if answer.written != wanted.len() as u64 => Some("the count of bytes written"),
+        _ if output[..wanted.len()] != *wanted => Some("the listing"),
+        _ if output[wanted.len()..] != [UNWRITTEN; OUTPUT][wanted.len()..] => {
+            Some("the output behind the listing, or that of a refused line")
+        }
+        _ => None,
+    };
+    Seen { wrong, refusal }
 }

@@ -22,21 +22,21 @@ mod tests;
 use shims::options::{ReadOptions, StrictnessLevel};
 use shims::{error, reference_tables};
 
-use compare::Desk;
+use compare::{seen, Case, Desk};
 use domain::Class;
 use generate::{Input, Plan};
-use oracle::Oracle;
+use port::BLOCK;
 use std::io::{self, Read, Write};
 use std::process::ExitCode;
 use std::sync::atomic::{AtomicU64, Ordering};
-use std::sync::Mutex;
 use std::thread;
 use std::time::Instant;
 use tables::Tables;
 use tally::{described, shrunk, Shown, Tally};
 
-const USAGE: &str = "differential [--count N | --short] [--seed N] [--threads N] [--file FILE]..
-    compares N lines (10,000,000; short: 1,000,000); lines of each FILE come first, whole and damaged
+const USAGE: &str = "differential [--count N | --short] [--seed N] [--threads N] [--file FILE].. [-- PORT WORD..]
+    compares N lines (10,000,000; short: 1,000,000); lines of each FILE come first, whole and damaged;
+    PORT is the program that answers for the port, and without one the Rust is held to 01 alone
 differential --list
     what pdblist prints for standard input, by the oracle
 differential --sample PREFIX LINES [--seed N]
@@ -47,8 +47,8 @@ const SHORT: u64 = 1_000_000;
 const USUAL_SEED: u64 = 330;
 /// How many cases are drawn from to choose a sample.
 const SAMPLED: u64 = 2_000_000;
-/// How many cases a thread takes at a time.
-const STRIDE: u64 = 4096;
+/// How many cases a thread takes at a time: whole blocks of requests.
+const STRIDE: u64 = 256 * BLOCK as u64;
 
 enum Mode {
     Compare,
@@ -62,6 +62,8 @@ struct Words {
     seed: u64,
     threads: usize,
     files: Vec<Vec<u8>>,
+    /// The command that runs the port, or nothing.
+    port: Vec<String>,
 }
 
 fn main() -> ExitCode {
@@ -75,15 +77,15 @@ fn main() -> ExitCode {
     rust::expect_panics();
     let tables = Tables::new(words.seed);
     let done = match &words.mode {
-        Mode::Compare => return compare_all(words, &tables),
-        Mode::List => list(&tables),
+        Mode::Compare => compare_all(&words, &tables),
+        Mode::List => list(&tables).map(|()| ExitCode::SUCCESS),
         Mode::Sample(prefix, count) => {
             let plan = Plan::new(words.seed, SAMPLED, Vec::new());
-            sample::write(prefix, *count, &plan, &tables)
+            sample::write(prefix, *count, &plan, &tables).map(|()| ExitCode::SUCCESS)
         }
     };
     match done {
-        Ok(()) => ExitCode::SUCCESS,
+        Ok(code) => code,
         Err(why) => {
             eprintln!("differential: {why}");
             ExitCode::FAILURE
@@ -98,9 +100,14 @@ fn words() -> Result<Words, String> {
         seed: USUAL_SEED,
         threads: thread::available_parallelism().map_or(1, usize::from),
         files: Vec::new(),
+        port: Vec::new(),
     };
     let mut given = std::env::args().skip(1);
     while let Some(word) = given.next() {
+        if word == "--" {
+            words.port = given.collect();
+            break;
+        }
         let mut next = || given.next().ok_or(format!("{word} wants more"));
         match word.as_str() {
             "--count" => words.count = number(&next()?)?,
@@ -110,6 +117,9 @@ fn words() -> Result<Words, String> {
             "--file" => {
                 let name = next()?;
                 let file = std::fs::read(&name).map_err(|why| format!("{name}: {why}"))?;
+                if sample::lines(&file).any(|line| line.len() > port::LONGEST) {
+                    return Err(format!("{name} has a line of over {} bytes", port::LONGEST));
+                }
                 words.files.extend(sample::lines(&file).map(<[u8]>::to_vec));
             }
             "--list" => words.mode = Mode::List,
@@ -137,8 +147,8 @@ fn list(tables: &Tables) -> io::Result<()> {
 }
 
 /// Runs every case and says what came of it: success if nothing was wrong.
-fn compare_all(words: Words, tables: &Tables) -> ExitCode {
-    let plan = Plan::new(words.seed, words.count, words.files);
+fn compare_all(words: &Words, tables: &Tables) -> io::Result<ExitCode> {
+    let plan = Plan::new(words.seed, words.count, words.files.clone());
     println!("seed {}, {} lines", plan.seed, plan.count);
     println!(
         "the Rust: {}, {}",
@@ -148,8 +158,9 @@ fn compare_all(words: Words, tables: &Tables) -> ExitCode {
             false => "without overflow checks",
         }
     );
-    if !port::LINKED {
-        println!("the port: not linked; the Rust is held to 01 alone");
+    match words.port.as_slice() {
+        [] => println!("the port: none was named; the Rust is held to 01 alone"),
+        command => println!("the port: {}", command.join(" ")),
     }
     for (name, count) in plan.sections() {
         println!("    {name}: {count}");
@@ -157,52 +168,51 @@ fn compare_all(words: Words, tables: &Tables) -> ExitCode {
 
     let start = Instant::now();
     let next = AtomicU64::new(0);
-    let tally = Mutex::new(Tally::default());
-    thread::scope(|scope| {
-        for _ in 0..words.threads {
-            scope.spawn(|| {
-                let mine = run(&plan, tables, &next);
-                tally.lock().expect("no thread panics").add(mine);
-            });
+    let tally = thread::scope(|scope| {
+        let threads: Vec<_> = (0..words.threads)
+            .map(|_| scope.spawn(|| run(&plan, tables, &words.port, &next)))
+            .collect();
+        let mut tally = Tally::default();
+        for thread in threads {
+            tally.add(thread.join().expect("no thread panics")?);
         }
-    });
-    let tally = tally.into_inner().expect("no thread panics");
+        io::Result::Ok(tally)
+    })?;
     let seconds = start.elapsed().as_secs_f64();
     println!(
         "{seconds:.1} s, {:.0} lines a second on {} threads",
         plan.count as f64 / seconds,
         words.threads
     );
-    tally.print(tables, port::LINKED);
-    verdict(&tally, tables)
+    tally.print(tables, !words.port.is_empty());
+    verdict(&tally, tables, &words.port)
 }
 
-/// One thread's share of the cases.
-fn run(plan: &Plan, tables: &Tables, next: &AtomicU64) -> Tally {
+/// One thread's share of the cases, with a port of its own.
+fn run(plan: &Plan, tables: &Tables, port: &[String], next: &AtomicU64) -> io::Result<Tally> {
     let mut tally = Tally::default();
-    let mut oracle = Oracle::new();
-    let mut desk = Desk::new();
-    let mut input = Input::new();
+    let mut desk = Desk::new(port)?;
     loop {
         let first = next.fetch_add(STRIDE, Ordering::Relaxed);
         if first >= plan.count {
-            return tally;
+            return Ok(tally);
         }
-        for index in first..plan.count.min(first + STRIDE) {
-            plan.make(index, &mut input);
-            let verdict = oracle.answer(&input, tables);
-            let listing = oracle.page.bytes.as_slice();
-            tally.count(&input, &verdict, listing.len());
-            if port::LINKED {
-                let seen = desk.compare(&input, tables, &verdict, listing);
-                tally.count_port(&input, &verdict, &seen);
-            }
+        let end = plan.count.min(first + STRIDE);
+        for start in (first..end).step_by(BLOCK) {
+            let count = BLOCK.min((end - start) as usize);
+            let make = |at, input: &mut Input| plan.make(start + at as u64, input);
+            desk.ask(count, tables, make, |input, verdict, listing, answer| {
+                tally.count(input, verdict, listing.len());
+                if let Some(answer) = answer {
+                    tally.count_port(input, verdict, &seen(verdict, listing, answer));
+                }
+            })?;
         }
     }
 }
 
 /// The last word: what was wrong, each with its smallest line.
-fn verdict(tally: &Tally, tables: &Tables) -> ExitCode {
+fn verdict(tally: &Tally, tables: &Tables, port: &[String]) -> io::Result<ExitCode> {
     let mut fine = true;
     for (finding, (count, shown)) in &tally.findings {
         fine = false;
@@ -221,40 +231,35 @@ fn verdict(tally: &Tally, tables: &Tables) -> ExitCode {
             _ => "what 01 says",
         };
         println!("\nDIFFERENCE in {} lines: {name}; held to {kept}", part.wrong);
-        explain(shown, *class, tables);
+        explain(shown, *class, tables, &mut Desk::new(port)?)?;
     }
     let lines: u64 = tally.parts.iter().map(|part| part.lines).sum();
     let domain = tally.parts[Class::Domain as usize].lines;
-    let what = match (fine, port::LINKED) {
-        (true, true) => "no difference",
-        (true, false) => "the Rust is as 01 says; no port was compared",
+    let what = match (fine, port) {
+        (true, []) => "the Rust is as 01 says; no port was compared",
+        (true, _) => "no difference",
         (false, _) => "DIFFERENT",
     };
     println!("\n{what}: {lines} lines, {domain} of them in the domain");
-    match fine {
+    Ok(match fine {
         true => ExitCode::SUCCESS,
         false => ExitCode::FAILURE,
-    }
+    })
 }
 
 /// Shows a wrong case, made smaller as far as it stays wrong and in its class.
-fn explain(shown: &Shown, class: Class, tables: &Tables) {
-    let mut oracle = Oracle::new();
-    let mut desk = Desk::new();
-    let mut wrong = |input: &Input| {
-        let verdict = oracle.answer(input, tables);
-        let seen = desk.compare(input, tables, &verdict, &oracle.page.bytes);
-        seen.wrong.filter(|_| verdict.class == class)
-    };
-    let input = shrunk(&shown.input, |input| wrong(input).is_some());
+fn explain(shown: &Shown, class: Class, tables: &Tables, desk: &mut Desk) -> io::Result<()> {
+    let is_wrong = |case: &Case| case.seen.wrong.is_some() && case.verdict.class == class;
+    let input =
+        shrunk(&shown.input, |input| desk.ask_one(input, tables).is_ok_and(|case| is_wrong(&case)));
+    let case = desk.ask_one(&input, tables)?;
     println!("    {}", described(&input, tables));
-    println!("    not as it should be: {}", wrong(&input).unwrap_or(shown.why));
-    let verdict = oracle.answer(&input, tables);
+    println!("    not as it should be: {}", case.seen.wrong.unwrap_or(shown.why));
     println!("  should be:");
-    print_answer(verdict.refusal, &oracle.page.bytes);
-    let seen = desk.compare(&input, tables, &verdict, &oracle.page.bytes);
+    print_answer(case.verdict.refusal, &case.listing);
     println!("  the port:");
-    print_answer(seen.refusal, &desk.listing(&input, tables));
+    print_answer(case.seen.refusal, &case.printed);
+    Ok(())
 }
 
 fn print_answer(refusal: oracle::Refusal, listing: &[u8]) {

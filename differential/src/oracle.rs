@@ -30,6 +30,7 @@ pub enum Did {
 }
 
 /// What is known about an input. The listing, if there is no refusal, is on the oracle's page.
+#[derive(Clone, Copy)]
 pub struct Verdict {
     /// The line's kind by 01, as its place in `KINDS`.
     pub kind: usize,

@@ -1,73 +1,111 @@
-//! The port, behind safe functions: the four entries of its C face. Nothing checks these
-//! declarations against the library, so they stand here and nowhere else.
-//!
-//! Without `--cfg port` the library isn't linked, and nobody may call these functions.
+//! The port: a program of its own that answers requests on a pipe, a block at a time, so that it
+//! may be compiled for another processor than this one. crates/serve is that program, and its
+//! layout of a request and of a reply stands here a second time.
 
+use crate::generate::Input;
 use crate::oracle::Refusal;
+use crate::tables::Tables;
+use std::io::{self, Read, Write};
+use std::process::{Child, ChildStdin, ChildStdout, Command, Stdio};
 
-/// Whether the library is linked.
-pub const LINKED: bool = cfg!(port);
+/// How many requests a block has.
+pub const BLOCK: usize = 15;
+/// The bytes of a request: five words, the line, and the table behind it.
+const REQUEST: usize = 4096;
+const HEAD: usize = 40;
+/// The bytes of a reply: four words and the output.
+const REPLY: usize = TOLD + OUTPUT;
+const TOLD: usize = 32;
+/// More than is ever lent, so that a byte written behind the lent ones shows.
+pub const OUTPUT: usize = 4160;
+/// What every byte of the output is before the calls.
+pub const UNWRITTEN: u8 = 0xC5;
+/// The longest line that has room in a request beside every table.
+pub const LONGEST: usize = 2000;
 
-#[cfg(port)]
-macro_rules! entries {
-    ($($safe:ident is $entry:ident),*) => {
-        extern "C" {
-            $(fn $entry(
-                line: *const u8,
-                line_len: usize,
-                number: usize,
-                options: u32,
-                remarks: *const u8,
-                remarks_len: usize,
-                out: *mut u8,
-                out_len: usize,
-            ) -> usize;)*
-        }
-        $(pub fn $safe(line: &[u8], number: usize, options: u32, remarks: &[u8], out: &mut [u8]) -> usize {
-            // Three slices that live through the call, of which only the last is written.
-            unsafe {
-                $entry(
-                    line.as_ptr(),
-                    line.len(),
-                    number,
-                    options,
-                    remarks.as_ptr(),
-                    remarks.len(),
-                    out.as_mut_ptr(),
-                    out.len(),
-                )
+/// What the port did with one input.
+pub struct Answer<'a> {
+    pub written: u64,
+    pub refusal: Refusal,
+    pub output: &'a [u8],
+}
+
+/// The running program.
+pub struct Port {
+    child: Child,
+    to: ChildStdin,
+    from: ChildStdout,
+    requests: Vec<u8>,
+    replies: Vec<u8>,
+}
+
+impl Port {
+    /// Starts it: a program, or one that runs another, and the words for it.
+    pub fn start(command: &[String]) -> io::Result<Self> {
+        let mut child = Command::new(&command[0])
+            .args(&command[1..])
+            .stdin(Stdio::piped())
+            .stdout(Stdio::piped())
+            .spawn()?;
+        let (to, from) = match (child.stdin.take(), child.stdout.take()) {
+            (Some(to), Some(from)) => (to, from),
+            _ => return Err(io::Error::other("no pipe to the port")),
+        };
+        let (requests, replies) = (vec![0; BLOCK * REQUEST], vec![0; BLOCK * REPLY]);
+        Ok(Port { child, to, from, requests, replies })
+    }
+
+    /// Sends a block. Where there are fewer inputs than places, old ones are asked again.
+    pub fn send(&mut self, inputs: &[Input], tables: &Tables) -> io::Result<()> {
+        for (request, input) in self.requests.chunks_exact_mut(REQUEST).zip(inputs) {
+            let table = tables.bytes(input.table);
+            let words = [
+                input.number as u64,
+                u64::from(input.options),
+                input.line.len() as u64,
+                table.len() as u64,
+                input.room as u64,
+            ];
+            for (place, word) in request.chunks_exact_mut(8).zip(words) {
+                place.copy_from_slice(&word.to_le_bytes());
             }
-        })*
-    };
+            let end = HEAD + input.line.len();
+            request[HEAD..end].copy_from_slice(&input.line);
+            request[end..end + table.len()].copy_from_slice(table);
+        }
+        self.to.write_all(&self.requests).map_err(ended)
+    }
+
+    /// Takes the replies to a block that was sent.
+    pub fn receive(&mut self) -> io::Result<()> {
+        self.from.read_exact(&mut self.replies).map_err(ended)
+    }
+
+    /// The reply to one of the block's requests.
+    pub fn answer(&self, at: usize) -> Answer<'_> {
+        let reply = &self.replies[at * REPLY..(at + 1) * REPLY];
+        let word = |at: usize| {
+            let mut bytes = [0; 8];
+            bytes.copy_from_slice(&reply[8 * at..8 * at + 8]);
+            u64::from_le_bytes(bytes)
+        };
+        let number = |at: usize| word(at) as usize;
+        Answer {
+            written: word(0),
+            refusal: Refusal { number: number(1), place: number(2), length: number(3) },
+            output: &reply[TOLD..],
+        }
+    }
 }
 
-#[cfg(not(port))]
-macro_rules! entries {
-    ($($safe:ident is $entry:ident),*) => {
-        $(pub fn $safe(_: &[u8], _: usize, _: u32, _: &[u8], _: &mut [u8]) -> usize {
-            unreachable!(concat!(stringify!($entry), " isn't linked"))
-        })*
-    };
+fn ended(why: io::Error) -> io::Error {
+    io::Error::other(format!("the port ended before it answered: {why}"))
 }
 
-entries!(
-    list is saltighedda_list,
-    refusal_number is saltighedda_list_refusal,
-    refusal_place is saltighedda_list_place,
-    refusal_length is saltighedda_list_length
-);
-
-/// The refusal of a line, by the three calls that tell it.
-pub fn refusal(
-    line: &[u8],
-    number: usize,
-    options: u32,
-    remarks: &[u8],
-    out: &mut [u8],
-) -> Refusal {
-    Refusal {
-        number: refusal_number(line, number, options, remarks, out),
-        place: refusal_place(line, number, options, remarks, out),
-        length: refusal_length(line, number, options, remarks, out),
+impl Drop for Port {
+    /// Nobody waits for an answer any more.
+    fn drop(&mut self) {
+        let _ = self.child.kill();
+        let _ = self.child.wait();
     }
 }

@@ -21,7 +21,7 @@ pub const ALL_VALID: usize = 2;
 const FIRST_RANDOM: usize = 3;
 const RANDOM: usize = 13;
 pub const FIRST_WRONG: usize = FIRST_RANDOM + RANDOM;
-const WRONG: [usize; 9] = [0, 1, 42, 500, 999, 1001, 1024, 2000, 65536];
+const WRONG: [usize; 9] = [0, 1, 42, 500, 999, 1001, 1024, 1999, 2000];
 pub const WRONG_COUNT: usize = WRONG.len();
 
 impl Tables {

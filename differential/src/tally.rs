@@ -78,7 +78,6 @@ pub struct Tally {
     faults: [u64; 6],
     options: [u64; 4],
     pub findings: BTreeMap<&'static str, (u64, Option<Shown>)>,
-    pub wrote_when_asked: u64,
     longest: usize,
 }
 
@@ -127,7 +126,6 @@ impl Tally {
     pub fn count_port(&mut self, input: &Input, verdict: &Verdict, seen: &Seen) {
         let part = &mut self.parts[verdict.class as usize];
         part.port[seen.refusal.number.min(8)] += 1;
-        self.wrote_when_asked += u64::from(seen.wrote_when_asked);
         if let Some(why) = seen.wrong {
             part.wrong += 1;
             keep_smaller(&mut part.smallest_wrong, input, why);
@@ -172,7 +170,6 @@ impl Tally {
                 keep_smaller(smallest, &shown.input, finding);
             }
         }
-        self.wrote_when_asked += other.wrote_when_asked;
         self.longest = self.longest.max(other.longest);
     }
 
@@ -217,12 +214,6 @@ impl Tally {
             if let Some(shown) = &part.smallest {
                 print_smallest(shown, tables, |verdict| verdict.class == *class);
             }
-        }
-        if port && self.wrote_when_asked > 0 {
-            println!(
-                "\nThe calls for a refusal wrote to the output of {} accepted lines.",
-                self.wrote_when_asked
-            );
         }
     }
 }

@@ -2,10 +2,10 @@
 
 use crate::columns::{kind_of, KINDS};
 use crate::good::GOOD;
-use crate::oracle::Refusal;
+use crate::oracle::{Oracle, Refusal};
 use crate::sample::{lines, listed};
 use crate::tables::{self, Tables};
-use crate::{rust, Input, Oracle};
+use crate::{rust, Input};
 use std::sync::Once;
 
 fn tables() -> Tables {

@@ -1,0 +1,206 @@
+// Answers over pipes what the four entries of `saltighedda` answer, for a host on a processor that can't call them. Standard input comes in
+// blocks of 15 requests of 4,096 bytes; for each block 15 replies of 4,192 bytes are written to standard output at once. The program ends
+// when the input ends or a write fails, and a block that isn't whole is not answered.
+//
+// Both begin with words of eight bytes, the lowest first:
+//
+//     a request                                        a reply
+//      0  the line's number                             0  what saltighedda_list answered
+//      8  the options, of which the low 32 bits count   8  saltighedda_list_refusal
+//     16  the length of the line                       16  saltighedda_list_place
+//     24  the length of the remark table               24  saltighedda_list_length
+//     32  the room                                     32  4,160 bytes of output
+//     40  the line, and directly behind it the table
+//
+// The output is all 0xC5 before the calls, and as many of its bytes as there is room are lent to them. So the asker sees each byte as it
+// was left, also behind what was lent. If the line and the table don't fit into their request, or the room is over 4,096, nothing is
+// called: the reply's first word is 2^64-1, and all its other bytes are 0xC5.
+ghost use Prim.Native.Nat.{_+_, _≤_};
+ghost use lib.ListN.{length};
+use libc::STDIN_FILENO;
+use libc::STDOUT_FILENO;
+use saltighedda::saltighedda_list;
+use saltighedda::saltighedda_list_length;
+use saltighedda::saltighedda_list_place;
+use saltighedda::saltighedda_list_refusal;
+
+// A pipe of 65,536 bytes holds the replies to so many, and to no more.
+const REQUESTS: usize = 15;
+
+const REQUEST: usize = 4096;
+
+const REPLY: usize = 4192;
+
+const BLOCK: usize = REQUESTS * REQUEST;
+
+const REPLIES: usize = REQUESTS * REPLY;
+
+// Where the parts of a request begin, and how many bytes its line and its table may have.
+const NUMBER: usize = 0;
+
+const OPTIONS: usize = 8;
+
+const LINE_LENGTH: usize = 16;
+
+const TABLE_LENGTH: usize = 24;
+
+const ROOM: usize = 32;
+
+const LINE: usize = 40;
+
+const TEXT: usize = REQUEST - LINE;
+
+// Where the parts of a reply begin.
+const WRITTEN: usize = 0;
+
+const REFUSAL: usize = 8;
+
+const PLACE: usize = 16;
+
+const LENGTH: usize = 24;
+
+const OUTPUT: usize = 32;
+
+// Every listing has room in so much. The output has 64 bytes more, which are never lent.
+const MOST_ROOM: usize = 4096;
+
+const MARK: u8 = 0xC5;
+
+const NOT_CALLED: usize = usize::MAX;
+
+struct Told {
+    written: usize,
+    refusal: usize,
+    place: usize,
+    length: usize,
+}
+
+fn wide(byte: u8) -> usize {
+    byte as usize
+}
+
+fn word(bytes: &[u8], at: usize) -> usize
+    requires { ⌜ at + 8 ≤ length (now bytes) ⌝ }
+{
+    let mut n = 0;
+    let mut i = 8;
+    while 0 < i {
+        i -= 1;
+        n = n << 8 | wide(bytes[at + i]);
+    }
+    n
+}
+
+fn put_word(bytes: &mut [u8], at: usize, n: usize)
+    requires { ⌜ at + 8 ≤ length (now bytes) ⌝ }
+{
+    let mut rest = n;
+    let mut i = 0;
+    while i < 8 {
+        bytes[at + i] = (rest % 256) as u8;
+        rest /= 256;
+        i += 1;
+    }
+}
+
+fn mark(bytes: &mut [u8]) {
+    let mut i = 0;
+    while i < bytes.len() {
+        bytes[i] = MARK;
+        i += 1;
+    }
+}
+
+// The three that mustn't write come first: what they wrote would show wherever nothing is listed.
+fn ask(line: &[u8], number: usize, options: u32, remarks: &[u8], out: &mut [u8]) -> Told {
+    let refusal = saltighedda_list_refusal(line, number, options, remarks, out);
+    let place = saltighedda_list_place(line, number, options, remarks, out);
+    let length = saltighedda_list_length(line, number, options, remarks, out);
+    let written = saltighedda_list(line, number, options, remarks, out);
+    Told {
+        written,
+        refusal,
+        place,
+        length,
+    }
+}
+
+fn put_told(reply: &mut [u8], told: Told)
+    requires { ⌜ 32 ≤ length (now reply) ⌝ }
+{
+    put_word(reply, WRITTEN, told.written);
+    put_word(reply, REFUSAL, told.refusal);
+    put_word(reply, PLACE, told.place);
+    put_word(reply, LENGTH, told.length);
+}
+
+// A reply says that nothing was called until something is. The lengths are tested before they are added, so no sum is too large.
+fn answer(request: &[u8], reply: &mut [u8])
+    requires { ⌜ 4096 ≤ length (now request) ⌝ }
+    requires { ⌜ 4192 ≤ length (now reply) ⌝ }
+{
+    put_word(reply, WRITTEN, NOT_CALLED);
+    let line = word(request, LINE_LENGTH);
+    if TEXT < line {
+        return;
+    }
+    let table = word(request, TABLE_LENGTH);
+    if TEXT - line < table {
+        return;
+    }
+    let room = word(request, ROOM);
+    if MOST_ROOM < room {
+        return;
+    }
+    let number = word(request, NUMBER);
+    let options = (word(request, OPTIONS) % 4294967296) as u32;
+    let behind = LINE + line;
+    let told = ask(
+        &request[LINE..behind],
+        number,
+        options,
+        &request[behind..behind + table],
+        &mut reply[OUTPUT..OUTPUT + room],
+    );
+    put_told(reply, told);
+}
+
+// The lengths are tested, though they always suffice, so that no caller has to prove them.
+fn answer_all(requests: &[u8], replies: &mut [u8]) {
+    let mut i = 0;
+    while i < REQUESTS {
+        let from = i * REQUEST;
+        let to = i * REPLY;
+        if requests.len() < from + REQUEST {
+            return;
+        }
+        if replies.len() < to + REPLY {
+            return;
+        }
+        answer(
+            &requests[from..from + REQUEST],
+            &mut replies[to..to + REPLY],
+        );
+        i += 1;
+    }
+}
+
+// Answers a block, and says whether to go on.
+fn answer_block(requests: &mut [u8], replies: &mut [u8]) -> bool {
+    if io::read_full(STDIN_FILENO, requests) < requests.len() {
+        return false;
+    }
+    mark(replies);
+    answer_all(requests, replies);
+    io::write_all(STDOUT_FILENO, replies)
+}
+
+// A proved loop has to end, and nothing says that the input does: it counts its turns down from a number that no run uses up.
+fn main() {
+    let mut requests = [0u8; BLOCK];
+    let mut replies = [0u8; REPLIES];
+    let mut turns = u64::MAX;
+    while 0 < turns && answer_block(&mut requests, &mut replies) {
+        turns -= 1;
+    }
+}
