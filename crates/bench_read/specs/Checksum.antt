@@ -2,7 +2,6 @@
 -- doubles of an ATOM or HETATM, in the order x, y, z, occupancy, B-factor; then how many faults there are. A sum sees the order of what is mixed
 -- into it, and loses nothing of it, since three is odd.
 use Prim.Native.Nat.{ℕ, _+_, _*_, _%_, _^_}
-use mathlib.Core.Bool.{false}
 use mathlib.Core.List.{List, [], _∷_}
 use lib.ListN.{replicate}
 use lib.Ieee.{Float, binary64, toBits}
@@ -11,9 +10,10 @@ use Rattle.lexer.specs.Refusals.{Input}
 use Rattle.lexitem.specs.declared.answer.Answer.{Answer}
 use Rattle.lexitem.specs.declared.answer.Outcome.{Outcome}
 use Rattle.lexitem.specs.declared.answer.Outcome.the-variants.{Accepted, Refused}
-use Rattle.lexitem.specs.declared.atom.Atom.{Atom}
+use Rattle.atom.specs.declared.record.Atom.{Atom}
 use Rattle.lexitem.specs.declared.item.LexItem.{LexItem}
 use Rattle.lexitem.specs.declared.item.LexItem.the-variants as item
+use Rattle.line.specs.Options.{plain}
 use Rattle.walker.specs.Lines.{linesOf}
 
 unfoldable pub mixed : ℕ → ℕ → ℕ
@@ -62,7 +62,7 @@ mixedAnswer sum a = mixed (mixedOutcome sum (a .outcome)) (a .faults .count)
 -- no option is on, and every remark number is valid
 abbrev pub plainInput : List ℕ → ℕ → Input
 plainInput line number =
-    record { line = line; number = number; options = record { atoms = false; loose = false }; remarks = replicate 1000 1 }
+    record { line = line; number = number; options = plain; remarks = replicate 1000 1 }
 
 -- the sum over lines of which so many have gone before; the first of all has the number 1
 unfoldable pub checksumFrom : ℕ → ℕ → List (List ℕ) → ℕ

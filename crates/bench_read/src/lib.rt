@@ -1,14 +1,14 @@
 // What the speed bench calls: every line of a lent file through `lex_line`, and a checksum of what came of it. A host that
 // reads the same fields can work out the same checksum, so that both are known to have done the same work.
 ghost use mathlib.Core.Path.{_≡_};
-ghost use mathlib.Core.Bool.{false};
+ghost use Rattle.line.specs.Options.{plain};
 ghost use Rattle.lexer.specs.Lexed.{lexed};
 ghost use Rattle.bench_read.specs.Checksum as specs;
+use atom::record::Atom;
 use lexer::lex_line;
-use lexitem::answer::Options;
 use lexitem::answer::Outcome;
-use lexitem::atom::Atom;
 use lexitem::item::LexItem;
+use line::options::Options;
 use page::bits_of;
 use std::num::wrapping_add_u64;
 use walker::lines::Step;
@@ -51,17 +51,9 @@ fn mixed_outcome(sum: u64, outcome: Outcome) -> u64
 }
 
 fn mixed_line(sum: u64, text: &[u8], number: usize, remarks: &[u8]) -> u64
-    ensures { λ r. ⌜ r ≡ specs.mixedAnswer sum (lexed (record { line = now (text .entry); number = number; options = record { atoms = false; loose = false }; remarks = now (remarks .entry) })) ⌝ }
+    ensures { λ r. ⌜ r ≡ specs.mixedAnswer sum (lexed (record { line = now (text .entry); number = number; options = plain; remarks = now (remarks .entry) })) ⌝ }
 {
-    let answer = lex_line(
-        text,
-        number,
-        Options {
-            atoms: false,
-            loose: false,
-        },
-        remarks,
-    );
+    let answer = lex_line(text, number, Options::PLAIN, remarks);
     let faults = answer.faults;
     let outcome = answer.outcome;
     mixed(mixed_outcome(sum, outcome), faults.count as u64)

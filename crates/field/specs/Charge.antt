@@ -7,12 +7,12 @@ use lib.ListN.{length, getD}
 use lib.Dec.{eqb}
 use lib.IntN.{ℤ, pos}
 use Rattle.number.specs.Whole.{digit, withSign}
-use Rattle.lexitem.specs.Columns.{partOf}
-use Rattle.lexitem.specs.Faults.{allNoted}
-use Rattle.lexitem.specs.declared.columns.Columns.{Columns}
-use Rattle.lexitem.specs.declared.fault.FaultKind.the-variants.{NoDigit, NoSign, Unknown}
-use Rattle.lexitem.specs.declared.fault.Fault.{Fault}
-use Rattle.lexitem.specs.declared.fault.Faults.{Faults}
+use Rattle.line.specs.Columns.{partOf}
+use Rattle.line.specs.Faults.{allNoted}
+use Rattle.line.specs.declared.columns.Columns.{Columns}
+use Rattle.line.specs.declared.fault.FaultKind.the-variants.{NoDigit, NoSign, Unknown}
+use Rattle.line.specs.declared.fault.Fault.{Fault}
+use Rattle.line.specs.declared.fault.Faults.{Faults}
 use Rattle.field.specs.Number.{faultAt, isFine}
 use Rattle.field.specs.declared.number_field.FineSigned.{FineSigned}
 use Rattle.field.specs.declared.number_field.GotSigned.{GotSigned}

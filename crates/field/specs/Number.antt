@@ -16,15 +16,15 @@ use Rattle.number.specs.declared.whole.Signed.{Signed}
 use Rattle.number.specs.declared.whole.Signed.the-variants.{I, NotI}
 use Rattle.number.specs.declared.real.Real.{Real}
 use Rattle.number.specs.declared.real.Real.the-variants.{R, NotR}
-use Rattle.lexitem.specs.Columns.{partOf, restOf}
-use Rattle.lexitem.specs.declared.columns.Columns.{Columns}
-use Rattle.lexitem.specs.declared.fault.Sort.{Sort}
-use Rattle.lexitem.specs.declared.fault.Sort.the-variants.{Unsigned as USort, Signed as ISort, Real as RSort}
-use Rattle.lexitem.specs.declared.fault.FaultKind.{FaultKind}
-use Rattle.lexitem.specs.declared.fault.FaultKind.the-variants.{Short, Wrong}
-use Rattle.lexitem.specs.declared.fault.Fault.{Fault}
-use Rattle.lexitem.specs.declared.fault.Faults.{Faults}
-use Rattle.lexitem.specs.Faults.{allNoted}
+use Rattle.line.specs.Columns.{partOf, restOf}
+use Rattle.line.specs.declared.columns.Columns.{Columns}
+use Rattle.line.specs.declared.fault.Sort.{Sort}
+use Rattle.line.specs.declared.fault.Sort.the-variants.{Unsigned as USort, Signed as ISort, Real as RSort}
+use Rattle.line.specs.declared.fault.FaultKind.{FaultKind}
+use Rattle.line.specs.declared.fault.FaultKind.the-variants.{Short, Wrong}
+use Rattle.line.specs.declared.fault.Fault.{Fault}
+use Rattle.line.specs.declared.fault.Faults.{Faults}
+use Rattle.line.specs.Faults.{allNoted}
 use Rattle.field.specs.declared.number_field.FineUnsigned.{FineUnsigned}
 use Rattle.field.specs.declared.number_field.FineSigned.{FineSigned}
 use Rattle.field.specs.declared.number_field.FineReal.{FineReal}

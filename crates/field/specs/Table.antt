@@ -5,18 +5,14 @@ use Prim.Native.Nat.{ℕ}
 use mathlib.Core.Bool.{Bool, true, _&&_}
 use mathlib.Core.List.{List, [], _∷_, _++_}
 use lib.Ieee.{Float}
-use Rattle.lexitem.specs.Faults.{allNoted}
-use Rattle.lexitem.specs.declared.columns.Columns.{Columns}
-use Rattle.lexitem.specs.declared.fault.Fault.{Fault}
-use Rattle.lexitem.specs.declared.fault.Faults.{Faults}
+use Rattle.line.specs.Faults.{allNoted}
+use Rattle.line.specs.Given.{Given, alone}
+use Rattle.line.specs.declared.columns.Columns.{Columns}
+use Rattle.line.specs.declared.fault.Fault.{Fault}
+use Rattle.line.specs.declared.fault.Faults.{Faults}
 use Rattle.field.specs.Number.{isFine, unsignedAt, unsignedFaults, signedFaults, realFaults, factorFaults, unsignedFromFaults}
 use Rattle.field.specs.Text.{textFaults, characterFaults}
 use Rattle.field.specs.Charge.{chargeFaults, knownFaults}
-
--- a line and the remark table that is lent beside it
-pub record Given : Type 0 where
-  pub line : List ℕ
-  pub remarks : List ℕ
 
 pub data Entry : Type 0 where
   -- U, I, R with its default, T and C in their columns
@@ -24,17 +20,18 @@ pub data Entry : Type 0 where
   i : Columns → Entry
   r : Columns → Float → Entry
   t : Columns → Entry
-  c : ℕ → Entry
+  c : Columns → Entry
   -- a C whose blank means absent
-  c? : ℕ → Entry
+  c? : Columns → Entry
   -- one of ANISOU's six
   a : Columns → Entry
   -- U from a column to the line's end
   u-rest : ℕ → Entry
-  -- X; a text of what the line reaches of the columns; a text that ends with the line
+  -- X; a text of what the line reaches of the columns; a text that ends with the line; the same with its end alone trimmed
   x : Columns → Entry
   t-within : Columns → Entry
   t-rest : ℕ → Entry
+  t-end : ℕ → Entry
   charge : Columns → Entry
   -- the number in the columns is in the remark table
   known : Columns → Entry
@@ -48,13 +45,14 @@ faultsBy g (u at) = unsignedFaults (g .line) at
 faultsBy g (i at) = signedFaults (g .line) at
 faultsBy g (r at default) = realFaults (g .line) at
 faultsBy g (t at) = textFaults (g .line) at
-faultsBy g (c column) = characterFaults (g .line) column
-faultsBy g (c? column) = characterFaults (g .line) column
+faultsBy g (c at) = characterFaults (g .line) (at .start)
+faultsBy g (c? at) = characterFaults (g .line) (at .start)
 faultsBy g (a at) = factorFaults (g .line) at
 faultsBy g (u-rest start) = unsignedFromFaults (g .line) start
 faultsBy g (x at) = []
 faultsBy g (t-within at) = []
 faultsBy g (t-rest start) = []
+faultsBy g (t-end start) = []
 faultsBy g (charge at) = chargeFaults (g .line) at
 faultsBy g (known at) = knownFaults (g .remarks) (unsignedAt (g .line) at) at
 faultsBy g (given column) = []
@@ -75,3 +73,10 @@ tableNoted g (e ∷ rest) fs = tableNoted g rest (allNoted fs (faultsBy g e))
 abbrev pub allFine : Given → List Entry → Bool
 allFine g [] = true
 allFine g (e ∷ rest) = isFine (faultsBy g e) && allFine g rest
+
+-- ---- of a line alone
+abbrev pub lineNoted : List ℕ → List Entry → Faults → Faults
+lineNoted l table fs = tableNoted (alone l) table fs
+
+abbrev pub lineFine : List ℕ → List Entry → Bool
+lineFine l table = allFine (alone l) table

@@ -7,15 +7,15 @@ use lib.ListN.{length, getD}
 use lib.Dec.{ltb, eqb}
 use Rattle.number.specs.Trim.{spanOf, kept}
 use Rattle.number.specs.declared.trim.Span.{Span}
-use Rattle.lexitem.specs.Columns.{partOf, reachedOf, restOf}
-use Rattle.lexitem.specs.declared.columns.Columns.{Columns}
-use Rattle.lexitem.specs.declared.text.Text.{Text}
-use Rattle.lexitem.specs.declared.text.Character.{Character}
-use Rattle.lexitem.specs.declared.text.Character.the-variants.{At, Unreached, Absent}
-use Rattle.lexitem.specs.declared.fault.FaultKind.the-variants.{Short}
-use Rattle.lexitem.specs.declared.fault.Fault.{Fault}
-use Rattle.lexitem.specs.declared.fault.Faults.{Faults}
-use Rattle.lexitem.specs.Faults.{allNoted}
+use Rattle.line.specs.Columns.{partOf, reachedOf, restOf}
+use Rattle.line.specs.declared.columns.Columns.{Columns}
+use Rattle.line.specs.declared.text.Text.{Text}
+use Rattle.line.specs.declared.text.Character.{Character}
+use Rattle.line.specs.declared.text.Character.the-variants.{At, Unreached, Absent}
+use Rattle.line.specs.declared.fault.FaultKind.the-variants.{Short}
+use Rattle.line.specs.declared.fault.Fault.{Fault}
+use Rattle.line.specs.declared.fault.Faults.{Faults}
+use Rattle.line.specs.Faults.{allNoted}
 use Rattle.field.specs.declared.text_field.FineText.{FineText}
 use Rattle.field.specs.declared.text_field.FineCharacter.{FineCharacter}
 use Rattle.field.specs.declared.text_field.GotText.{GotText}

@@ -4,10 +4,10 @@ ghost use Prim.Native.Nat.{_<_};
 ghost use Rattle.field.specs.Charge as specs;
 use crate::number_field::FineSigned;
 use crate::number_field::GotSigned;
-use lexitem::columns::Columns;
-use lexitem::fault::Fault;
-use lexitem::fault::FaultKind;
-use lexitem::fault::Faults;
+use line::columns::Columns;
+use line::fault::Fault;
+use line::fault::FaultKind;
+use line::fault::Faults;
 
 fn both_blank(a: u8, b: u8) -> bool
     ensures { λ r. ⌜ r ≡ specs.bothBlank a b ⌝ }

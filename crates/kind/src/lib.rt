@@ -1,9 +1,11 @@
-// Which kind a line is, by its first bytes. A name is looked up as one number, its bytes being the digits.
+// Which kind a line is, by its first bytes, and the name of a kind. A name is looked up as one number, its bytes being the digits.
 ghost use mathlib.Core.Path.{_≡_};
 ghost use Prim.Native.Nat.{_≤_};
 ghost use lib.ListN.{length, take};
 ghost use Rattle.kind.specs.Key.{keyOf, kindByKey};
 ghost use Rattle.kind.specs.Kind as specs;
+
+pub mod name;
 
 // SCALEn, ORIGXn and MTRIXn carry their row, n less one.
 pub enum Kind {
@@ -58,11 +60,12 @@ fn named(key: u64) -> Kind
     ensures { λ r. ⌜ r ≡ kindByKey key specs.names ⌝ }
 {
     match key {
+        0x454d50545920 => Kind::Empty, // EMPTY
         0x484541444552 => Kind::Header, // HEADER
         0x52454d41524b => Kind::Remark, // REMARK
         0x41544f4d2020 => Kind::Atom, // ATOM
-        0x414e49534f55 => Kind::Anisou, // ANISOU
         0x48455441544d => Kind::Hetatm, // HETATM
+        0x414e49534f55 => Kind::Anisou, // ANISOU
         0x435259535431 => Kind::Cryst1, // CRYST1
         0x5343414c4531 => Kind::Scale(0), // SCALE1
         0x5343414c4532 => Kind::Scale(1), // SCALE2
@@ -89,6 +92,22 @@ fn named(key: u64) -> Kind
     }
 }
 
+// The kinds that atoms only keeps.
+fn named_kept(key: u64) -> Kind
+    ensures { λ r. ⌜ r ≡ kindByKey key (specs.keptNames specs.names) ⌝ }
+{
+    match key {
+        0x454d50545920 => Kind::Empty, // EMPTY
+        0x41544f4d2020 => Kind::Atom, // ATOM
+        0x48455441544d => Kind::Hetatm, // HETATM
+        0x4d4f44454c20 => Kind::Model, // MODEL
+        0x454e444d444c => Kind::Endmdl, // ENDMDL
+        0x544552202020 => Kind::Ter, // TER
+        0x454e44202020 => Kind::End, // END
+        _ => Kind::Empty,
+    }
+}
+
 fn named_short(key: u64) -> Kind
     ensures { λ r. ⌜ r ≡ kindByKey key specs.shortNames ⌝ }
 {
@@ -99,47 +118,14 @@ fn named_short(key: u64) -> Kind
     }
 }
 
-// Whether atoms only keeps a kind.
-fn is_kept(kind: Kind) -> bool
-    ensures { λ r. ⌜ r ≡ specs.keptByAtoms kind ⌝ }
-{
-    match kind {
-        Kind::Empty => true,
-        Kind::Header => false,
-        Kind::Remark => false,
-        Kind::Atom => true,
-        Kind::Hetatm => true,
-        Kind::Anisou => false,
-        Kind::Cryst1 => false,
-        Kind::Scale(_) => false,
-        Kind::Origx(_) => false,
-        Kind::Mtrix(_) => false,
-        Kind::Model => true,
-        Kind::Master => false,
-        Kind::Dbref => false,
-        Kind::Dbref1 => false,
-        Kind::Dbref2 => false,
-        Kind::Seqres => false,
-        Kind::Seqadv => false,
-        Kind::Modres => false,
-        Kind::Ssbond => false,
-        Kind::Endmdl => true,
-        Kind::Ter => true,
-        Kind::End => true,
-    }
-}
-
-// The kind, or EMPTY if atoms only skips it.
-fn kept(atoms: bool, kind: Kind) -> Kind
-    ensures { λ r. ⌜ r ≡ specs.keptOf atoms kind ⌝ }
+// The kind that six bytes name, under atoms only or not.
+fn named_by(atoms: bool, key: u64) -> Kind
+    ensures { λ r. ⌜ r ≡ kindByKey key (specs.namesBy atoms) ⌝ }
 {
     if atoms {
-        if is_kept(kind) {
-            return kind;
-        }
-        return Kind::Empty;
+        return named_kept(key);
     }
-    kind
+    named(key)
 }
 
 // The kind of a line, under atoms only or not.
@@ -147,7 +133,7 @@ pub fn kind_of(atoms: bool, line: &[u8]) -> Kind
     ensures { λ r. ⌜ r ≡ specs.kindOf atoms (now (line .entry)) ⌝ }
 {
     if 6 < line.len() {
-        return kept(atoms, named(six(line)));
+        return named_by(atoms, six(line));
     }
     if 2 < line.len() {
         return named_short(three(line));

@@ -1,4 +1,4 @@
--- The laws of the words in specs/. Plain and Rows prove the code, and Accepted is what callers cite of an accepted line.
+-- The laws of the words in specs/. Plain and Tests prove the code, and Accepted is what callers cite of an accepted line.
 pub mod Plain
-pub mod Rows
+pub mod Tests
 pub mod Accepted

@@ -1,5 +1,4 @@
--- The words that the contracts of this crate cite: what a line's fields are, which refusal it gets, and what is answered.
-pub mod Item
+-- The words that the contracts of this crate cite: which refusal a line gets, and what is answered.
 pub mod Refusals
 pub mod Lexed
 pub mod Steps

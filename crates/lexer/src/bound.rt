@@ -1,53 +1,12 @@
-// What a kind asks of its line, and the refusals that come of it.
+// The refusals that come of what a kind asks of its line.
 ghost use mathlib.Core.Path.{_≡_};
 ghost use Rattle.lexer.specs.Refusals as specs;
 ghost use Rattle.lexer.specs.Steps as steps;
-use kind::Kind;
+use header::record::Header;
 use lexitem::answer::Refusal;
-use lexitem::crystal::Crystal;
-use lexitem::header::Header;
-use lexitem::header::Remark;
-use lexitem::seqadv::Modres;
-use lexitem::seqadv::Seqadv;
-use lexitem::ssbond::SSBond;
+use lexitem::bound::Bound;
 use number::trim::kept_length;
-
-// HEADER asks for all of its columns, REMARK for not too many, some kinds for a least length, the rest for nothing.
-pub enum Bound {
-    Header,
-    Remark,
-    Least(usize),
-    Free,
-}
-
-pub fn bound_of(kind: Kind) -> Bound
-    ensures { λ r. ⌜ r ≡ specs.boundOf kind ⌝ }
-{
-    match kind {
-        Kind::Empty => Bound::Free,
-        Kind::Header => Bound::Header,
-        Kind::Remark => Bound::Remark,
-        Kind::Atom => Bound::Free,
-        Kind::Hetatm => Bound::Free,
-        Kind::Anisou => Bound::Free,
-        Kind::Cryst1 => Bound::Least(Crystal::SPACEGROUP.start as usize),
-        Kind::Scale(_) => Bound::Free,
-        Kind::Origx(_) => Bound::Free,
-        Kind::Mtrix(_) => Bound::Free,
-        Kind::Model => Bound::Free,
-        Kind::Master => Bound::Free,
-        Kind::Dbref => Bound::Free,
-        Kind::Dbref1 => Bound::Free,
-        Kind::Dbref2 => Bound::Free,
-        Kind::Seqres => Bound::Free,
-        Kind::Seqadv => Bound::Least(Seqadv::COMMENT as usize),
-        Kind::Modres => Bound::Least(Modres::COMMENT as usize),
-        Kind::Ssbond => Bound::Least(SSBond::OTHER_INSERTION as usize + 1),
-        Kind::Endmdl => Bound::Free,
-        Kind::Ter => Bound::Free,
-        Kind::End => Bound::Free,
-    }
-}
+use remark::record::Remark;
 
 // The place that a cut HEADER's refusal names.
 const HEADER_PLACE: usize = 11;

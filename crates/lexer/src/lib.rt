@@ -4,20 +4,19 @@ ghost use Rattle.lexer.specs.Refusals as specs;
 ghost use Rattle.lexer.specs.Lexed.{lexed};
 ghost use Rattle.lexer.specs.Steps as steps;
 
-pub mod bound;
-pub mod read;
+mod bound;
 
-use crate::bound::bound_of;
 use crate::bound::own_refusal;
-use crate::read::lex_as;
 use kind::Kind;
 use kind::kind_of;
 use lexitem::answer::Answer;
-use lexitem::answer::Options;
 use lexitem::answer::Outcome;
 use lexitem::answer::Refusal;
-use lexitem::fault::Faults;
-use records::Lexed;
+use lexitem::bound::bound_of;
+use lexitem::read::GotItem;
+use lexitem::read::lex_as;
+use line::fault::Faults;
+use line::options::Options;
 
 // The highest byte of a line, 0 if it has none. The loop has no way out, so that many bytes go at once.
 fn highest(line: &[u8]) -> u8
@@ -72,10 +71,10 @@ fn refuse(line: usize, refusal: Refusal) -> Answer
 }
 
 // A record with its faults, unless there are more than the list holds.
-fn accept(line: usize, lexed: Lexed) -> Answer
-    ensures { λ r. ⌜ r ≡ steps.answerOf line lexed ⌝ }
+fn accept(line: usize, got: GotItem) -> Answer
+    ensures { λ r. ⌜ r ≡ steps.answerOf line got ⌝ }
 {
-    let faults = lexed.faults;
+    let faults = got.faults;
     if 16 < faults.count {
         let over = faults.over;
         return refuse(
@@ -83,7 +82,7 @@ fn accept(line: usize, lexed: Lexed) -> Answer
             Refusal::new(7, over.place as usize, over.length as usize),
         );
     }
-    let item = lexed.item;
+    let item = got.value;
     Answer {
         line,
         outcome: Outcome::Accepted(item),
@@ -92,14 +91,14 @@ fn accept(line: usize, lexed: Lexed) -> Answer
 }
 
 // Reads a line of a kind, after the refusals that the kind has of its own.
-fn read_as(line: &[u8], number: usize, kind: Kind, loose: bool, remarks: &[u8]) -> Answer
-    ensures { λ r. ⌜ r ≡ steps.readAs (now (line .entry)) number kind loose (now (remarks .entry)) ⌝ }
+fn read_as(line: &[u8], number: usize, kind: Kind, options: Options, remarks: &[u8]) -> Answer
+    ensures { λ r. ⌜ r ≡ steps.readAs number kind (record { line = now (line .entry); options = options; remarks = now (remarks .entry) }) ⌝ }
 {
-    let refusal = own_refusal(bound_of(kind), line, loose);
+    let refusal = own_refusal(bound_of(kind), line, options.loose);
     if refusal.number != 0 {
         return refuse(number, refusal);
     }
-    accept(number, lex_as(kind, line, remarks))
+    accept(number, lex_as(kind, line, options, remarks))
 }
 
 // Lexes a line of any bytes. The number is handed through. The remark table has 1,000 bytes, byte n nonzero when
@@ -117,11 +116,5 @@ pub fn lex_line(line: &[u8], number: usize, options: Options, remarks: &[u8]) ->
     if plain < line.len() {
         return refuse(number, Refusal::new(3, plain, 1));
     }
-    read_as(
-        line,
-        number,
-        kind_of(options.atoms, line),
-        options.loose,
-        remarks,
-    )
+    read_as(line, number, kind_of(options.atoms, line), options, remarks)
 }

@@ -1,2 +1,2 @@
 -- The laws of the words in specs/.
-pub mod Faults
+pub mod Read

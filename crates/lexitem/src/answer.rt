@@ -1,13 +1,7 @@
-// What lexing a line takes besides the line, and what it answers.
+// What lexing a line answers.
 ghost use mathlib.Core.Path.{_≡_};
-use crate::fault::Faults;
 use crate::item::LexItem;
-
-// Atoms only makes every kind EMPTY but ATOM, HETATM, MODEL, ENDMDL, TER and END. Loose lets long remarks pass.
-pub struct Options {
-    pub atoms: bool,
-    pub loose: bool,
-}
+use line::fault::Faults;
 
 // A refusal by document 01's number, with its place and length.
 pub struct Refusal {

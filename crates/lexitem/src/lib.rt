@@ -1,16 +1,6 @@
-// The types of a lexed line: columns, texts, faults and their bounded list, the records with their columns, and
-// the answer. A text is a place in the line and a length; nothing here copies a byte of it.
+// The record over all kinds, the answer that holds it, and what goes by the kind: its reader, its rows and what it asks of its line.
 pub mod answer;
-pub mod atom;
-pub mod columns;
-pub mod crystal;
-pub mod dbref;
-pub mod fault;
-pub mod header;
+pub mod bound;
 pub mod item;
-pub mod master;
-pub mod seqadv;
-pub mod seqres;
-pub mod ssbond;
-pub mod text;
-pub mod transformation;
+pub mod read;
+pub mod rows;

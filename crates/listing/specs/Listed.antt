@@ -8,7 +8,7 @@ use lib.ListN.{length, drop}
 use lib.Dec.{leb}
 use Rattle.lexer.specs.Lexed.{lexed}
 use Rattle.lexer.specs.Refusals.{Input}
-use Rattle.lexitem.specs.Faults.{listed}
+use Rattle.line.specs.Faults.{listed}
 use Rattle.lexitem.specs.declared.answer.Outcome.{Outcome}
 use Rattle.lexitem.specs.declared.answer.Outcome.the-variants as outcome
 use Rattle.lexitem.specs.declared.item.LexItem.{LexItem}

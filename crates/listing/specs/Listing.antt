@@ -3,13 +3,13 @@
 use Prim.Native.Nat.{ℕ}
 use mathlib.Core.List.{List, [], _∷_, _++_}
 use lib.ListN.{length}
-use Rattle.kind.specs.Kind.{bytes}
-use Rattle.lexitem.specs.Faults.{numberOf}
-use Rattle.lexitem.specs.declared.fault.Fault.{Fault}
+use Rattle.line.specs.Bytes.{bytes}
+use Rattle.line.specs.Faults.{numberOf}
+use Rattle.line.specs.declared.fault.Fault.{Fault}
 use Rattle.lexitem.specs.declared.item.LexItem.{LexItem}
 use Rattle.page.specs.Numerals.{decimal}
-use Rattle.rows.specs.Fields.{fieldsOf}
-use Rattle.rows.specs.Name.{nameOf}
+use Rattle.kind.specs.Name.{nameOf}
+use Rattle.lexitem.specs.Item.{fieldsOf, kindOfItem}
 use Rattle.listing.specs.Each.{each}
 use Rattle.listing.specs.Row.{rowsBytes}
 
@@ -31,7 +31,7 @@ faultsBytes fs = each faultBytes fs
 unfoldable pub listingOf : ℕ → List ℕ → LexItem → List Fault → List ℕ
 listingOf number l item fs =
     bytes "record="
-    ++ nameOf item
+    ++ nameOf (kindOfItem item)
     ++ feed
     ++ numberRow (bytes "line=") number
     ++ rowsBytes l (fieldsOf item)

@@ -5,16 +5,16 @@ use Prim.Native.Nat.{ℕ}
 use mathlib.Core.Bool.{Bool, true, false, cond}
 use mathlib.Core.List.{List, [], _∷_, _++_}
 use lib.Ieee.{binary64, toBits}
-use Rattle.lexitem.specs.Text.{viewOf}
-use Rattle.lexitem.specs.declared.text.Character.{Character}
-use Rattle.lexitem.specs.declared.text.Character.the-variants.{At, Unreached, Absent}
-use Rattle.lexitem.specs.declared.text.Field.{Field}
-use Rattle.lexitem.specs.declared.text.Field.the-variants as field
+use Rattle.line.specs.Text.{viewOf}
+use Rattle.line.specs.declared.text.Character.{Character}
+use Rattle.line.specs.declared.text.Character.the-variants.{At, Unreached, Absent}
+use Rattle.line.specs.declared.text.Field.{Field}
+use Rattle.line.specs.declared.text.Field.the-variants as field
 use Rattle.page.specs.Numerals.{decimal, signedDecimal, hex16, escaped}
 use Rattle.listing.specs.Each.{each}
-use Rattle.rows.specs.declared.row.Row.{Row}
-use Rattle.rows.specs.declared.row.Value.{Value}
-use Rattle.rows.specs.declared.row.Value.the-variants.{Unsigned, Signed, Real, Words, One, Flag, Nothing}
+use Rattle.row.specs.declared.Row.{Row}
+use Rattle.row.specs.declared.Value.{Value}
+use Rattle.row.specs.declared.Value.the-variants.{Unsigned, Signed, Real, Words, One, Flag, Nothing}
 
 abbrev pub presentCharacter : Character → Bool
 presentCharacter (At place) = true

@@ -4,7 +4,7 @@ ghost use Prim.Native.Nat.{_≤_};
 ghost use lib.ListN.{take};
 ghost use Rattle.listing.specs.Listing as specs;
 ghost use Rattle.page.specs.Page.{page, put};
-use lexitem::fault::Fault;
+use line::fault::Fault;
 use page::put_byte;
 use page::put_bytes;
 use page::put_unsigned;

@@ -6,24 +6,25 @@ ghost use lib.ListN.{length, take};
 ghost use Rattle.listing.specs.Listed as into;
 ghost use Rattle.listing.specs.Listing as specs;
 ghost use Rattle.page.specs.Page.{page, put};
-ghost use Rattle.rows.specs.Name.{nameOf};
+ghost use Rattle.kind.specs.Name.{nameOf};
+ghost use Rattle.lexitem.specs.Item.{kindOfItem};
 
 mod fault;
 mod put;
 
 use crate::fault::put_faults;
 use crate::put::put_rows;
+use kind::name::name_of;
 use lexer::lex_line;
-use lexitem::answer::Options;
 use lexitem::answer::Outcome;
 use lexitem::answer::Refusal;
-use lexitem::fault::Fault;
 use lexitem::item::LexItem;
+use lexitem::rows::rows_of;
+use line::fault::Fault;
+use line::options::Options;
 use page::put_byte;
 use page::put_bytes;
 use page::put_unsigned;
-use rows::name::name_of;
-use rows::rows::rows_of;
 
 // The first so many bytes of a text.
 fn put_front(out: &mut [u8], at: usize, text: [u8; 6], n: usize) -> usize
@@ -34,9 +35,9 @@ fn put_front(out: &mut [u8], at: usize, text: [u8; 6], n: usize) -> usize
 }
 
 fn put_name(out: &mut [u8], at: usize, item: LexItem) -> usize
-    ensures { λ r. ⌜ page (now (out .exit)) r ≡ put (page (now (out .entry)) at) (nameOf item) ⌝ }
+    ensures { λ r. ⌜ page (now (out .exit)) r ≡ put (page (now (out .entry)) at) (nameOf (kindOfItem item)) ⌝ }
 {
-    let name = name_of(item);
+    let name = name_of(item.kind());
     let text = name.text;
     put_front(out, at, text, name.length)
 }

@@ -2,17 +2,17 @@
 ghost use mathlib.Core.Path.{_≡_};
 ghost use Rattle.listing.specs.Row as specs;
 ghost use Rattle.page.specs.Page.{page, put};
-use lexitem::text::Character;
-use lexitem::text::Field;
-use lexitem::text::view;
+use line::text::Character;
+use line::text::Field;
+use line::text::view;
 use page::bits_of;
 use page::put_byte;
 use page::put_escaped;
 use page::put_hex;
 use page::put_signed;
 use page::put_unsigned;
-use rows::row::Row;
-use rows::row::Value;
+use row::Row;
+use row::Value;
 
 // Whether a row is shown.
 fn is_present(value: Value) -> bool

@@ -3,7 +3,7 @@ pub mod RealsNamed
 pub mod RealsTable
 pub mod RealsField
 pub mod Reals
-pub mod Format
+pub mod Departures
 pub mod Agreeing
 pub mod Refusing
 pub mod Few

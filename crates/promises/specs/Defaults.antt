@@ -4,18 +4,18 @@ use mathlib.Core.Bool.{true, false}
 use mathlib.Core.List.{List, [], _∷_, _++_}
 use lib.IntN.{pos}
 use lib.Ieee.{Float}
-use Rattle.kind.specs.Kind.{bytes}
-use Rattle.lexitem.specs.declared.atom.Basics.{Basics}
+use Rattle.line.specs.Bytes.{bytes}
+use Rattle.atom.specs.declared.record.Basics.{Basics}
 use Rattle.lexitem.specs.declared.item.LexItem.the-variants as item
-use Rattle.lexitem.specs.declared.dbref.Segment.{Segment}
-use Rattle.lexitem.specs.declared.seqadv.Target.{Target}
-use Rattle.lexitem.specs.declared.seqadv.Target.the-variants.{Residue, NoResidue}
-use Rattle.lexitem.specs.declared.ssbond.Tail.{Tail}
-use Rattle.lexitem.specs.declared.ssbond.Tail.the-variants.{Bond, NoTail}
-use Rattle.lexitem.specs.declared.text.Character.{Character}
-use Rattle.lexitem.specs.declared.text.Character.the-variants.{At, Unreached, Absent}
-use Rattle.lexitem.specs.declared.text.Text.{Text}
-use Rattle.lexitem.specs.declared.transformation.Row.{Row}
+use Rattle.dbref.specs.declared.record.Segment.{Segment}
+use Rattle.seqadv.specs.declared.record.Target.{Target}
+use Rattle.seqadv.specs.declared.record.Target.the-variants.{Residue, NoResidue}
+use Rattle.ssbond.specs.declared.record.Tail.{Tail}
+use Rattle.ssbond.specs.declared.record.Tail.the-variants.{Bond, NoTail}
+use Rattle.line.specs.declared.text.Character.{Character}
+use Rattle.line.specs.declared.text.Character.the-variants.{At, Unreached, Absent}
+use Rattle.line.specs.declared.text.Text.{Text}
+use Rattle.transformation.specs.declared.record.Transformation.{Transformation}
 use Rattle.promises.specs.Edges.{Claim, Case, on, onUnknown, filled, real}
 use Rattle.promises.specs.Edges.Claim.{is, field, faults, count}
 
@@ -66,7 +66,7 @@ crystal = is (item.Crystal (record {
   z = 1;
 }))
 
-abbrev row : Row
+abbrev row : Transformation
 row = record { a = zero; b = zero; c = zero; d = zero }
 
 abbrev master : Claim

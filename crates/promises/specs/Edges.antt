@@ -8,16 +8,17 @@ use mathlib.Core.List.{List, [], _∷_, _++_, map}
 use lib.ListN.{length, replicate}
 use lib.IntN.{pos, negℤ}
 use lib.Ieee.{Float, binary64, ofBits}
-use Rattle.kind.specs.Kind.{bytes}
-use Rattle.lexitem.specs.Faults.{numberOf, listed}
+use Rattle.line.specs.Bytes.{bytes}
+use Rattle.line.specs.Faults.{numberOf, listed}
 use Rattle.lexitem.specs.declared.answer.Answer.{Answer}
-use Rattle.lexitem.specs.declared.answer.Options.{Options}
+use Rattle.line.specs.Options.{plain}
+use Rattle.line.specs.declared.options.Options.{Options}
 use Rattle.lexitem.specs.declared.answer.Outcome.the-variants.{Accepted, Refused}
-use Rattle.lexitem.specs.declared.fault.Fault.{Fault}
+use Rattle.line.specs.declared.fault.Fault.{Fault}
 use Rattle.lexitem.specs.declared.item.LexItem.{LexItem}
 use Rattle.lexitem.specs.declared.item.LexItem.the-variants as item
 use Rattle.lexer.specs.Lexed.{lexed}
-use Rattle.lexer.specs.Steps.{refusal}
+use Rattle.lexitem.specs.Answer.{refusal}
 
 -- what is claimed of an answer
 pub data Claim : Type 1 where
@@ -65,7 +66,7 @@ CasesFound (c ∷ rest) = ClaimsFound (answerTo c) (c .claims) × CasesFound res
 -- all kinds, not loose, every remark number valid
 abbrev pub on : List ℕ → List Claim → Case
 on line claims =
-    record { line = line; options = record { atoms = false; loose = false }; remarks = replicate 1000 1; claims = claims }
+    record { line = line; options = plain; remarks = replicate 1000 1; claims = claims }
 
 -- the same, but loose
 abbrev pub onLoose : List ℕ → List Claim → Case
@@ -75,7 +76,7 @@ onLoose line claims =
 -- the same, but no remark number valid
 abbrev pub onUnknown : List ℕ → List Claim → Case
 onUnknown line claims =
-    record { line = line; options = record { atoms = false; loose = false }; remarks = replicate 1000 0; claims = claims }
+    record { line = line; options = plain; remarks = replicate 1000 0; claims = claims }
 
 -- a line filled with blanks up to a length
 abbrev pub filled : ℕ → List ℕ → List ℕ

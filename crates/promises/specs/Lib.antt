@@ -1,6 +1,6 @@
 -- What the theorems of this crate speak of, besides the words of the crates below.
 pub mod Reals
-pub mod Format
+pub mod Departures
 pub mod Refusing
 pub mod Edges
 pub mod Defaults

@@ -18,14 +18,18 @@ use Rattle.number.specs.declared.whole.Signed.{Signed}
 use Rattle.number.specs.declared.whole.Signed.the-variants.{I, NotI}
 use Rattle.number.specs.declared.decimal.Decimal.{Decimal}
 use Rattle.number.specs.declared.decimal.Decimal.the-variants.{Plain, NotPlain}
-use Rattle.lexitem.specs.Columns.{_⋯_, partOf}
-use Rattle.lexitem.specs.declared.columns.Columns.{Columns}
-use Rattle.lexitem.specs.declared.fault.Fault.{Fault}
+use Rattle.line.specs.Columns.{partOf}
+use Rattle.atom.specs.Atom as atom
+use Rattle.crystal.specs.Crystal as crystal
+use Rattle.ssbond.specs.Ssbond as ssbond
+use Rattle.transformation.specs.Transformation as transformation
+use Rattle.line.specs.declared.columns.Columns.{Columns}
+use Rattle.line.specs.declared.fault.Fault.{Fault}
 use Rattle.lexitem.specs.declared.item.LexItem.{LexItem}
 use Rattle.lexitem.specs.declared.item.LexItem.the-variants as item
-use Rattle.lexitem.specs.declared.ssbond.Tail.{Tail}
-use Rattle.lexitem.specs.declared.ssbond.Tail.the-variants.{Bond, NoTail}
-use Rattle.lexitem.specs.declared.transformation.Row.{Row}
+use Rattle.ssbond.specs.declared.record.Tail.{Tail}
+use Rattle.ssbond.specs.declared.record.Tail.the-variants.{Bond, NoTail}
+use Rattle.transformation.specs.declared.record.Transformation.{Transformation}
 use Rattle.field.specs.Number.{zeroReal, oneReal}
 
 -- ---- the real fields of a record
@@ -49,12 +53,17 @@ abbrev pub factor : Columns → Float → RealField
 factor at x = record { columns = at; form = Form.integer; value = x; default = zeroReal }
 
 -- a transformation row
-abbrev pub rowReals : Row → List RealField
-rowReals x = real (10 ⋯ 20) (x .a) ∷ real (20 ⋯ 30) (x .b) ∷ real (30 ⋯ 40) (x .c) ∷ real (45 ⋯ 55) (x .d) ∷ []
+abbrev pub rowReals : Transformation → List RealField
+rowReals x =
+    real (transformation.at transformation.Field.a) (x .a)
+    ∷ real (transformation.at transformation.Field.b) (x .b)
+    ∷ real (transformation.at transformation.Field.c) (x .c)
+    ∷ real (transformation.at transformation.Field.d) (x .d)
+    ∷ []
 
 -- the bond's length, if the line has it
 abbrev pub tailReals : Tail → List RealField
-tailReals (Bond first second length) = real (73 ⋯ 78) length ∷ []
+tailReals (Bond first second length) = real (ssbond.at ssbond.Field.distance) length ∷ []
 tailReals NoTail = []
 
 abbrev pub realsOf : LexItem → List RealField
@@ -62,27 +71,27 @@ realsOf item.Empty = []
 realsOf (item.Header x) = []
 realsOf (item.Remark x) = []
 realsOf (item.Atom x) =
-    real (30 ⋯ 38) (x .position .x)
-    ∷ real (38 ⋯ 46) (x .position .y)
-    ∷ real (46 ⋯ 54) (x .position .z)
-    ∷ record { columns = 54 ⋯ 60; form = Form.decimal; value = x .occupancy; default = oneReal }
-    ∷ real (60 ⋯ 66) (x .bfactor)
+    real (atom.at atom.Field.x) (x .position .x)
+    ∷ real (atom.at atom.Field.y) (x .position .y)
+    ∷ real (atom.at atom.Field.z) (x .position .z)
+    ∷ record { columns = atom.at atom.Field.occupancy; form = Form.decimal; value = x .occupancy; default = oneReal }
+    ∷ real (atom.at atom.Field.bfactor) (x .bfactor)
     ∷ []
 realsOf (item.Anisou x) =
-    factor (28 ⋯ 35) (x .factors .u11)
-    ∷ factor (35 ⋯ 42) (x .factors .u22)
-    ∷ factor (42 ⋯ 49) (x .factors .u33)
-    ∷ factor (49 ⋯ 56) (x .factors .u12)
-    ∷ factor (56 ⋯ 63) (x .factors .u13)
-    ∷ factor (63 ⋯ 70) (x .factors .u23)
+    factor (atom.at atom.Field.u11) (x .factors .u11)
+    ∷ factor (atom.at atom.Field.u22) (x .factors .u22)
+    ∷ factor (atom.at atom.Field.u33) (x .factors .u33)
+    ∷ factor (atom.at atom.Field.u12) (x .factors .u12)
+    ∷ factor (atom.at atom.Field.u13) (x .factors .u13)
+    ∷ factor (atom.at atom.Field.u23) (x .factors .u23)
     ∷ []
 realsOf (item.Crystal x) =
-    real (6 ⋯ 15) (x .cell .a)
-    ∷ real (15 ⋯ 24) (x .cell .b)
-    ∷ real (24 ⋯ 33) (x .cell .c)
-    ∷ real (33 ⋯ 40) (x .cell .alpha)
-    ∷ real (40 ⋯ 47) (x .cell .beta)
-    ∷ real (47 ⋯ 54) (x .cell .gamma)
+    real (crystal.at crystal.Field.a) (x .cell .a)
+    ∷ real (crystal.at crystal.Field.b) (x .cell .b)
+    ∷ real (crystal.at crystal.Field.c) (x .cell .c)
+    ∷ real (crystal.at crystal.Field.alpha) (x .cell .alpha)
+    ∷ real (crystal.at crystal.Field.beta) (x .cell .beta)
+    ∷ real (crystal.at crystal.Field.gamma) (x .cell .gamma)
     ∷ []
 realsOf (item.Scale x) = rowReals (x .values)
 realsOf (item.OrigX x) = rowReals (x .values)

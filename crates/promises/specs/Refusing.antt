@@ -8,11 +8,11 @@ use mathlib.Core.List.{List, [], _∷_, _++_}
 use lib.ListN.{length, getD}
 use Rattle.number.specs.Trim.{endTrimmed}
 use Rattle.lexitem.specs.declared.answer.Refusal.{Refusal}
-use Rattle.lexitem.specs.declared.fault.Fault.{Fault}
+use Rattle.line.specs.declared.fault.Fault.{Fault}
 use Rattle.kind.specs.declared.Kind.{Kind}
 use Rattle.kind.specs.declared.Kind.the-variants.{Header, Remark, Cryst1, Seqadv, Modres, Ssbond}
 use Rattle.lexer.specs.Refusals.{Input, kind, faults}
-use Rattle.lexer.specs.Steps.{refusal}
+use Rattle.lexitem.specs.Answer.{refusal}
 
 -- a rule, as which refusals it gives
 abbrev pub Rule : Type 1

@@ -5,7 +5,7 @@ use mathlib.Core.Bool.{cond}
 use mathlib.Core.List.{List, _++_}
 use lib.ListN.{length}
 use lib.Dec.{leb}
-use Rattle.kind.specs.Kind.{bytes}
+use Rattle.line.specs.Bytes.{bytes}
 use Rattle.lexer.specs.Lexed.{lexed}
 use Rattle.lexer.specs.Refusals.{Input}
 use Rattle.lexitem.specs.declared.answer.Outcome.{Outcome}

@@ -7,7 +7,7 @@ use lib.ListN.{length}
 use lib.Dec.{eqb}
 use Rattle.lexer.specs.Lexed.{lexed}
 use Rattle.lexer.specs.Refusals.{Input}
-use Rattle.lexitem.specs.declared.answer.Options.{Options}
+use Rattle.line.specs.declared.options.Options.{Options}
 use Rattle.lexitem.specs.declared.answer.Refusal.{Refusal}
 use Rattle.listing.specs.Listed.{measured, listedBytes}
 use Rattle.listing.specs.declared.Listed.{Listed}

@@ -2,8 +2,8 @@
 // include/saltighedda.h has it. Three of the calls tell of a refusal; they take the lent bytes of the first, and only their number counts.
 ghost use mathlib.Core.Path.{_≡_};
 ghost use Rattle.saltighedda.specs.Face as specs;
-use lexitem::answer::Options;
 use lexitem::answer::Refusal;
+use line::options::Options;
 use listing::Listed;
 use listing::list_line;
 use listing::measure_line;

@@ -6,8 +6,8 @@ ghost use Rattle.listing.specs.Listing.{longest};
 ghost use Rattle.page.specs.Page.{page, put};
 ghost use Rattle.report.specs.Report.{reportOf};
 ghost use Rattle.stream.specs.Listed.{inputOf};
-use lexitem::answer::Options;
 use libc::STDOUT_FILENO;
+use line::options::Options;
 use report::put_report;
 use walker::lines::Step;
 use walker::lines::line;
@@ -29,12 +29,8 @@ fn print(text: &[u8]) -> bool {
 fn put_line(text: &[u8], number: usize, out: &mut [u8]) -> usize
     ensures { λ r. ⌜ page (now (out .exit)) r ≡ put (page (now (out .entry)) 0) (reportOf (length (now (out .entry))) (inputOf number (now (text .entry)))) ⌝ }
 {
-    let options = Options {
-        atoms: false,
-        loose: false,
-    };
     let remarks = [1u8; 1000];
-    put_report(text, number, options, &remarks, out)
+    put_report(text, number, Options::PLAIN, &remarks, out)
 }
 
 // A line's report, in a space where the longest has room.

@@ -29,8 +29,8 @@ use Rattle.number.specs.declared.whole.Signed.the-variants.{I, NotI}
 use Rattle.number.specs.declared.real.Real.the-variants.{NotR}
 use Rattle.number.proofs.Laws.Trim.{leading-le}
 use Rattle.number.proofs.Laws.Width.{signed-fits}
-use Rattle.lexitem.specs.Columns.{partOf}
-use Rattle.lexitem.specs.declared.columns.Columns.{Columns}
+use Rattle.line.specs.Columns.{partOf}
+use Rattle.line.specs.declared.columns.Columns.{Columns}
 use Rattle.field.specs.Number.{orI, signedAt}
 use Rattle.field.specs.Charge.{isSign, charged, chargeOf, chargeAt}
 

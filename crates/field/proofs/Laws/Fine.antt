@@ -13,16 +13,17 @@ use borrow.Author.Tests.{eqb-true}
 use lib.ListN.{length, getD}
 use lib.Dec.{ltb, eqb}
 use Rattle.number.specs.Whole.{digit}
-use Rattle.lexitem.specs.Columns.{partOf}
-use Rattle.lexitem.specs.declared.columns.Columns.{Columns}
-use Rattle.lexitem.specs.declared.fault.Fault.{Fault}
-use Rattle.lexitem.specs.declared.fault.Faults.{Faults}
-use Rattle.lexitem.specs.declared.fault.Sort.{Sort}
-use Rattle.lexitem.specs.declared.fault.FaultKind.the-variants.{NoDigit, NoSign}
+use Rattle.line.specs.Columns.{partOf}
+use Rattle.line.specs.declared.columns.Columns.{Columns}
+use Rattle.line.specs.declared.fault.Fault.{Fault}
+use Rattle.line.specs.declared.fault.Faults.{Faults}
+use Rattle.line.specs.declared.fault.Sort.{Sort}
+use Rattle.line.specs.declared.fault.FaultKind.the-variants.{NoDigit, NoSign}
 use Rattle.field.specs.Number.{isFine, shortAt, wrongAt, numberFault, numberFaults}
 use Rattle.field.specs.Text.{textFaults, characterFaults, unreached}
 use Rattle.field.specs.Charge.{bothBlank, isSign, charged, chargeFault, chargeFaultsOf, chargeFaults}
-use Rattle.field.specs.Table.{Given, Entry, faultsBy, tableNoted, allFine}
+use Rattle.line.specs.Given.{Given}
+use Rattle.field.specs.Table.{Entry, faultsBy, tableNoted, allFine}
 
 pub fine-none : (fs : List Fault) → isFine fs ≡ true → fs ≡ []
 fine-none [] e = refl

@@ -1,10 +1,11 @@
 -- A table's faults noted field after field are the plain list noted. Assumes nothing.
 use mathlib.Core.Path.{_≡_, refl}
 use mathlib.Core.List.{List, [], _∷_, _++_}
-use Rattle.lexitem.specs.Faults.{noted, allNoted}
-use Rattle.lexitem.specs.declared.fault.Fault.{Fault}
-use Rattle.lexitem.specs.declared.fault.Faults.{Faults}
-use Rattle.field.specs.Table.{Given, Entry, faultsBy, tableFaults, tableNoted}
+use Rattle.line.specs.Faults.{noted, allNoted}
+use Rattle.line.specs.declared.fault.Fault.{Fault}
+use Rattle.line.specs.declared.fault.Faults.{Faults}
+use Rattle.line.specs.Given.{Given}
+use Rattle.field.specs.Table.{Entry, faultsBy, tableFaults, tableNoted}
 
 pub noted-append : (a b : List Fault) (fs : Faults) → allNoted fs (a ++ b) ≡ allNoted (allNoted fs a) b
 noted-append [] b fs = refl

@@ -1,5 +1,6 @@
 -- Laws of the names and their kinds.
 --     areNames         whether each name of a table is w bytes: `tt` proves it of those there are
+--     names-six        so are those that count, under atoms only or not
 --     kind-by-key      a name is found by its number
 --     kind-by-front    so is the front of a line
 --     key-found        what a `match` finds at a number
@@ -7,7 +8,7 @@
 -- Assumes nothing.
 use Prim.Native.Nat.{ℕ, _≤_}
 use mathlib.Core.Path.{_≡_, refl, _∙_}
-use mathlib.Core.Bool.{Bool, true, _&&_}
+use mathlib.Core.Bool.{Bool, true, false, _&&_}
 use mathlib.Core.List.{List, [], _∷_}
 use lib.Dec.{T, eqb, eqb→eq}
 use lib.ListN.{length, take}
@@ -15,7 +16,7 @@ use lib.Seq.{length-take-le}
 use lib.Ieee.Fits.{and-l, and-r}
 use borrow.Author.Tests.{ne-eqb}
 use Rattle.kind.specs.Key.{keyOf, kindByKey}
-use Rattle.kind.specs.Kind.{Named, kindBy}
+use Rattle.kind.specs.Kind.{Named, namesBy, kindBy}
 use Rattle.kind.specs.declared.Kind.the-variants.{Empty}
 use Rattle.kind.proofs.Laws.Key.{Bytes, isBytes, bytes-front, same-key}
 
@@ -26,6 +27,10 @@ isName w t = eqb w (length t) && isBytes t
 abbrev pub areNames : ℕ → List Named → Bool
 areNames w [] = true
 areNames w (n ∷ ns) = isName w (n .name) && areNames w ns
+
+pub names-six : (atoms : Bool) → T (areNames 6 (namesBy atoms))
+names-six true = tt
+names-six false = tt
 
 is-name : (w : ℕ) (t : List ℕ) → T (isName w t) → (w ≡ length t) × T (isBytes t)
 is-name w t h = (eqb→eq w (length t) (and-l (eqb w (length t)) (isBytes t) h), and-r (eqb w (length t)) (isBytes t) h)

@@ -3,8 +3,8 @@
 use native.Mathlib.Omega.{arith}
 use borrow.Author.Tests.{lt-ltb, le-ltb}
 use lib.ListN.{length}
-use Rattle.kind.proofs.Laws.Table.{kind-by-front}
-use Rattle.kind.specs.Kind.{kindOf, names, shortNames}
+use Rattle.kind.proofs.Laws.Table.{names-six, kind-by-front}
+use Rattle.kind.specs.Kind.{kindOf, namesBy, shortNames}
 use borrow.Author.Needs.{needs}
 use Rattle.kind.proofs.kind_of.Statement.{statement}
 use Rattle.kind.proofs.kind_of.Tie as tie
@@ -12,20 +12,18 @@ use Rattle.kind.proofs.kind_of.Tie as tie
 six-requires : tie.Need-six-requires
 six-requires c κs = search needs
 
-named-requires : tie.Need-named-requires
-named-requires c κs = search needs
-
-kept-requires : tie.Need-kept-requires
-kept-requires c κs = search needs
+named-by-requires : tie.Need-named-by-requires
+named-by-requires c κs = search needs
 
 returns : tie.Need-returns
 unfolding kindOf
 returns c =
-    let s = c .before .before .before .before in
+    let s = c .before .before .before in
     let l = s .before .args .line .now in
-    let long = lt-ltb 6 (length l) (c .before .before .before .if1 .taken) in
-    let known = kind-by-front 6 names l (s .shared-slice-known .given) (omega arith) tt in
-    rw (long, known, ← c .before .before .six .ensures, ← c .before .named .ensures) (c .kept .ensures)
+    let atoms = s .before .args .atoms in
+    let long = lt-ltb 6 (length l) (c .before .before .if1 .taken) in
+    let known = kind-by-front 6 (namesBy atoms) l (s .shared-slice-known .given) (omega arith) (names-six atoms) in
+    rw (long, known, ← c .before .six .ensures) (c .named-by .ensures)
 
 three-requires : tie.Need-three-requires
 three-requires c κs = search needs
@@ -54,8 +52,7 @@ kind-of-spec =
     tie.close
     (tie.spec
     six-requires
-    named-requires
-    kept-requires
+    named-by-requires
     returns
     three-requires
     named-short-requires

@@ -87,7 +87,10 @@ returns-27 : tie.Need-returns-27
 returns-27 c = key-found names (c .match .keys27)
 
 returns-28 : tie.Need-returns-28
-returns-28 c = none-found _ names (c .match .rest)
+returns-28 c = key-found names (c .match .keys28)
+
+returns-29 : tie.Need-returns-29
+returns-29 c = none-found _ names (c .match .rest)
 
 pub named-spec : {M : Type 1} → statement M
 named-spec =
@@ -120,4 +123,5 @@ named-spec =
     returns-25
     returns-26
     returns-27
-    returns-28)
+    returns-28
+    returns-29)

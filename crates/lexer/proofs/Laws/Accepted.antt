@@ -1,4 +1,4 @@
--- What an accepted line is: no row of refusals holds of it.
+-- What an accepted line is: no test for a refusal holds of it.
 --     accepted-answer    its answer is the record of its kind with the faults of its kind
 --     accepted-item      so its record is that of its kind
 --     accepted-line      it has at most 1,024 bytes
@@ -12,24 +12,24 @@ use mathlib.Core.Bool.{Bool, true, false, cond}
 use mathlib.Core.List.{List, [], _∷_}
 use borrow.Author.Tests.{ltb-false}
 use lib.ListN.{length, take, drop}
-use Rattle.lexer.specs.Item.{itemOf}
+use Rattle.lexitem.specs.Describe.{itemOf}
 use Rattle.lexer.specs.Lexed.{refused, accepted, firstOf, lexed}
-use Rattle.lexer.specs.Refusals.{Input, Row, rows, kind, faults}
-use Rattle.lexitem.specs.Faults.{listed}
+use Rattle.lexer.specs.Refusals.{Input, Test, tests, kind, given, faults}
+use Rattle.line.specs.Faults.{listed}
 use Rattle.lexitem.specs.declared.answer.Answer.{Answer}
 use Rattle.lexitem.specs.declared.answer.Outcome.the-variants.{Accepted}
 use Rattle.lexitem.specs.declared.answer.Refusal.{Refusal}
 use Rattle.lexitem.specs.declared.item.LexItem.{LexItem}
-use Rattle.lexitem.proofs.Laws.Faults.{noted-exact, noted-listed}
+use Rattle.line.proofs.Laws.Faults.{noted-exact, noted-listed}
 
 module _ (i : Input) (x : LexItem) where
-  row-failed : (b : Bool) (r : Refusal) (else : Answer) → cond b (refused i r) else .outcome ≡ Accepted x → b ≡ false
-  row-failed true r else e = cc
-  row-failed false r else e = refl
+  test-failed : (b : Bool) (r : Refusal) (else : Answer) → cond b (refused i r) else .outcome ≡ Accepted x → b ≡ false
+  test-failed true r else e = cc
+  test-failed false r else e = refl
 
-  rows-passed : (rs : List Row) (else : Answer) → firstOf i rs else .outcome ≡ Accepted x → firstOf i rs else ≡ else
-  rows-passed [] else e = refl
-  rows-passed (r ∷ rest) else e = go (r .holds) (rows-passed rest else) e
+  tests-passed : (rs : List Test) (else : Answer) → firstOf i rs else .outcome ≡ Accepted x → firstOf i rs else ≡ else
+  tests-passed [] else e = refl
+  tests-passed (r ∷ rest) else e = go (r .holds) (tests-passed rest else) e
     where
       go : (b : Bool) → (firstOf i rest else .outcome ≡ Accepted x → firstOf i rest else ≡ else)
           → cond b (refused i (r .gives)) (firstOf i rest else) .outcome ≡ Accepted x
@@ -40,23 +40,23 @@ module _ (i : Input) (x : LexItem) where
   module _ (yes : lexed i .outcome ≡ Accepted x) where
     pub accepted-answer : lexed i ≡ accepted i
     unfolding lexed
-    accepted-answer = rows-passed (rows i) (accepted i) yes
+    accepted-answer = tests-passed (tests i) (accepted i) yes
 
-    pub accepted-item : x ≡ itemOf (kind i) (i .line)
+    pub accepted-item : x ≡ itemOf (kind i) (given i)
     accepted-item = let e = accepted-answer in cc
 
     pub accepted-line : length (i .line) ≤ 1024
     unfolding lexed
     accepted-line =
-        let on = rows-passed (take 1 (rows i)) (firstOf i (drop 1 (rows i)) (accepted i)) yes in
+        let on = tests-passed (take 1 (tests i)) (firstOf i (drop 1 (tests i)) (accepted i)) yes in
         ltb-false 1024 (length (i .line))
-        (row-failed _ _ (firstOf i (drop 2 (rows i)) (accepted i)) (ap (λ (a : Answer). a .outcome) (sym on) ∙ yes))
+        (test-failed _ _ (firstOf i (drop 2 (tests i)) (accepted i)) (ap (λ (a : Answer). a .outcome) (sym on) ∙ yes))
 
     pub accepted-few : length (faults i) ≤ 16
     unfolding lexed
     accepted-few =
-        let on = rows-passed (take 6 (rows i)) (firstOf i (drop 6 (rows i)) (accepted i)) yes in
-        ltb-false 16 (length (faults i)) (row-failed _ _ (accepted i) (ap (λ (a : Answer). a .outcome) (sym on) ∙ yes))
+        let on = tests-passed (take 6 (tests i)) (firstOf i (drop 6 (tests i)) (accepted i)) yes in
+        ltb-false 16 (length (faults i)) (test-failed _ _ (accepted i) (ap (λ (a : Answer). a .outcome) (sym on) ∙ yes))
 
     pub accepted-count : lexed i .faults .count ≡ length (faults i)
     accepted-count = rw accepted-answer (noted-exact (faults i) accepted-few)

@@ -1,10 +1,10 @@
--- `lexer::lex_line` meets its contract: its tests are the first three rows, and `read_as` takes the others.
+-- `lexer::lex_line` meets its contract: its tests are the first three, and `read_as` makes the others.
 -- Assumes nothing.
 use mathlib.Core.Path.{ap, _∙_}
 use denote.Ref.{now}
 use Rattle.lexer.specs.Steps.{readAs, refusedWith}
-use Rattle.lexer.proofs.Laws.Rows.{row-1, row-2, row-3, rows-passed}
-use Rattle.lexer.specs.Refusals.{Input}
+use Rattle.lexer.proofs.Laws.Tests.{test-1, test-2, test-3, tests-passed}
+use Rattle.lexer.specs.Refusals.{Input, given}
 use Rattle.kind.specs.declared.Kind.{Kind}
 use borrow.Author.Needs.{needs}
 use Rattle.lexer.proofs.lex_line.Statement.{statement}
@@ -20,7 +20,7 @@ returns : tie.Need-returns
 returns c =
     let a = c .before .before .before .before .before .args in
     let i : Input = record { line = a .line .now; number = a .number; options = a .options; remarks = a .remarks .now } in
-    c .refuse .ensures ∙ ap (refusedWith (a .number)) (c .before .new .ensures) ∙ row-1 i (c .before .before .if1 .taken)
+    c .refuse .ensures ∙ ap (refusedWith (a .number)) (c .before .new .ensures) ∙ test-1 i (c .before .before .if1 .taken)
 
 sub-new : tie.Need-sub-new
 sub-new c = search needs
@@ -35,7 +35,7 @@ returns-2 : tie.Need-returns-2
 returns-2 c =
     let a = c .before .before .before .before .before .before .args in
     let i : Input = record { line = a .line .now; number = a .number; options = a .options; remarks = a .remarks .now } in
-    c .refuse2 .ensures ∙ ap (refusedWith (a .number)) (c .before .new2 .ensures) ∙ row-2 i (c .before .before .before .if1 .left) (c .before .before .if2 .taken)
+    c .refuse2 .ensures ∙ ap (refusedWith (a .number)) (c .before .new2 .ensures) ∙ test-2 i (c .before .before .before .if1 .left) (c .before .before .if2 .taken)
 
 plain-length-requires : tie.Need-plain-length-requires
 plain-length-requires c κs = search needs
@@ -52,7 +52,7 @@ returns-3 c =
     let i : Input = record { line = a .line .now; number = a .number; options = a .options; remarks = a .remarks .now } in
     let e = c .before .before .before .plain-length .ensures in
     c .refuse3 .ensures ∙ ap (refusedWith (a .number)) (c .before .new3 .ensures)
-    ∙ rw e (row-3 i (c .before .before .before .before .before .if1 .left) (c .before .before .before .before .if2 .left) (rw (← e) (c .before .before .if3 .taken)))
+    ∙ rw e (test-3 i (c .before .before .before .before .before .if1 .left) (c .before .before .before .before .if2 .left) (rw (← e) (c .before .before .if3 .taken)))
 
 kind-of-requires : tie.Need-kind-of-requires
 kind-of-requires c κs = search needs
@@ -66,8 +66,8 @@ returns-4 c =
     let i : Input = record { line = a .line .now; number = a .number; options = a .options; remarks = a .remarks .now } in
     let e = c .before .before .before .plain-length .ensures in
     c .read-as .ensures
-    ∙ ap (λ (k : Kind). readAs (a .line .now) (a .number) k (a .options .loose) (a .remarks .now)) (c .before .kind-of .ensures)
-    ∙ rows-passed i (c .before .before .before .before .before .if1 .left) (c .before .before .before .before .if2 .left) (rw (← e) (c .before .before .if3 .left))
+    ∙ ap (λ (k : Kind). readAs (a .number) k (given i)) (c .before .kind-of .ensures)
+    ∙ tests-passed i (c .before .before .before .before .before .if1 .left) (c .before .before .before .before .if2 .left) (rw (← e) (c .before .before .if3 .left))
 
 pub lex-line-spec : {M : Type 1} → statement M
 lex-line-spec =

@@ -4,7 +4,7 @@ use mathlib.Core.Path.{ap, _∙_}
 use borrow.Author.Tests.{eq-eqb, ne-eqb}
 use denote.Ref.{now}
 use Rattle.lexer.specs.Steps.{answerOf, readAs, ownRefusal}
-use Rattle.lexer.specs.declared.bound.Bound.{Bound}
+use Rattle.lexitem.specs.declared.bound.Bound.{Bound}
 use borrow.Author.Needs.{needs}
 use Rattle.lexer.proofs.read_as.Statement.{statement}
 use Rattle.lexer.proofs.read_as.Tie as tie
@@ -22,7 +22,7 @@ returns : tie.Need-returns
 unfolding readAs
 returns c =
     let a = c .before .before .before .before .before .before .before .args in
-    let o = c .before .before .before .own-refusal .ensures ∙ ap (λ (b : Bound). ownRefusal b (a .line .now) (a .loose)) (c .before .before .before .before .bound-of .ensures) in
+    let o = c .before .before .before .own-refusal .ensures ∙ ap (λ (b : Bound). ownRefusal b (a .line .now) (a .options .loose)) (c .before .before .before .before .bound-of .ensures) in
     rw (← o, ne-eqb _ 0 (c .before .if1 .taken)) (c .refuse .ensures)
 
 lex-as-requires : tie.Need-lex-as-requires
@@ -35,7 +35,7 @@ returns-2 : tie.Need-returns-2
 unfolding readAs
 returns-2 c =
     let a = c .before .before .before .before .before .before .before .before .args in
-    let o = c .before .before .before .before .own-refusal .ensures ∙ ap (λ (b : Bound). ownRefusal b (a .line .now) (a .loose)) (c .before .before .before .before .before .bound-of .ensures) in
+    let o = c .before .before .before .before .own-refusal .ensures ∙ ap (λ (b : Bound). ownRefusal b (a .line .now) (a .options .loose)) (c .before .before .before .before .before .bound-of .ensures) in
     rw (← o, eq-eqb _ 0 (c .before .before .if1 .left)) (c .accept .ensures ∙ ap (answerOf (a .number)) (c .before .lex-as .ensures))
 
 pub read-as-spec : {M : Type 1} → statement M

@@ -10,16 +10,16 @@ use mathlib.Core.Path.{_≡_, refl}
 use mathlib.Core.List.{List, [], _∷_, _++_}
 use lib.IntN.{pos, negsuc}
 use lib.Ieee.{binary64, ofBits, toBits}
-use Rattle.kind.specs.Kind.{bytes}
-use Rattle.lexitem.specs.Text.{withinOf}
-use Rattle.lexitem.specs.declared.fault.FaultKind.the-variants.{Wrong}
-use Rattle.lexitem.specs.declared.fault.Sort.the-variants.{Unsigned}
+use Rattle.line.specs.Bytes.{bytes}
+use Rattle.line.specs.Text.{withinOf}
+use Rattle.line.specs.declared.fault.FaultKind.the-variants.{Wrong}
+use Rattle.line.specs.declared.fault.Sort.the-variants.{Unsigned}
 use Rattle.lexitem.specs.declared.item.LexItem.the-variants.{Model, Scale, Seqadv, Modres}
-use Rattle.lexitem.specs.declared.seqadv.Target.the-variants.{NoResidue}
-use Rattle.lexitem.specs.declared.text.Character.the-variants.{At, Unreached, Absent}
-use Rattle.lexitem.specs.declared.text.Text.{Text}
+use Rattle.seqadv.specs.declared.record.Target.the-variants.{NoResidue}
+use Rattle.line.specs.declared.text.Character.the-variants.{At, Unreached, Absent}
+use Rattle.line.specs.declared.text.Text.{Text}
 use Rattle.page.specs.Numerals.{decimalBefore, decimal, signedDecimal, hexDigit, hexBefore, hex16, plain, shown, escaped}
-use Rattle.rows.specs.Name.{rowDigit}
+use Rattle.kind.specs.Name.{rowOf}
 use Rattle.listing.specs.Each.{each}
 use Rattle.listing.specs.Listing.{numberRow, faultBytes, listingOf}
 use Rattle.listing.specs.Row.{rowBytes}
@@ -60,7 +60,7 @@ pub scale : listingOf 3 []
     ∷ "f45=3FD0000000000000"
     ∷ "faults=0"
     ∷ [])
-unfolding listingOf numberRow each rowBytes decimal decimalBefore hex16 hexBefore hexDigit ofBits toBits rowDigit
+unfolding listingOf numberRow each rowBytes decimal decimalBefore hex16 hexBefore hexDigit ofBits toBits rowOf
 scale = refl
 
 pub modres : listingOf 7 (97 ∷ 37 ∷ 127 ∷ 32 ∷ [])

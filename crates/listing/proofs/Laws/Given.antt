@@ -11,7 +11,7 @@ use lib.ListN.{length, take}
 use Rattle.lexer.specs.Lexed.{lexed}
 use Rattle.lexer.specs.Refusals.{Input}
 use Rattle.lexer.proofs.Laws.Accepted.{accepted-count, accepted-few}
-use Rattle.lexitem.specs.Faults.{listed}
+use Rattle.line.specs.Faults.{listed}
 use Rattle.lexitem.specs.declared.answer.Answer.{Answer}
 use Rattle.lexitem.specs.declared.answer.Outcome.the-variants.{Accepted, Refused}
 use Rattle.lexitem.specs.declared.answer.Refusal.{Refusal}

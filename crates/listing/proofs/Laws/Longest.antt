@@ -10,28 +10,35 @@ use mathlib.Core.List.{List, [], _∷_}
 use native.Mathlib.Omega.{arith}
 use lib.ListN.{length, length-append}
 use lib.Dec.{ltb, lit≤}
-use Rattle.kind.specs.Kind.{bytes}
+use Rattle.line.specs.Bytes.{bytes}
 use Rattle.kind.specs.declared.Kind.{Kind}
 use Rattle.kind.specs.declared.Kind.the-variants.{Empty, Header, Remark, Atom, Hetatm, Anisou, Cryst1, Scale, Origx, Mtrix, Model, Master, Dbref, Dbref1, Dbref2, Seqres, Seqadv, Modres, Ssbond, Endmdl, Ter, End}
-use Rattle.lexer.specs.Item.{itemOf}
+use Rattle.lexitem.specs.Describe.{itemOf}
 use Rattle.lexer.specs.Lexed.{lexed}
-use Rattle.lexer.specs.Refusals.{Input, kind}
-use Rattle.lexitem.specs.Columns.{_⋯_}
-use Rattle.lexitem.specs.Faults.{numberOf, listed}
+use Rattle.lexer.specs.Refusals.{Input, kind, given}
+use Rattle.line.specs.Faults.{numberOf, listed}
+use Rattle.line.specs.Given.{Given}
 use Rattle.lexitem.specs.declared.answer.Outcome.the-variants.{Accepted}
-use Rattle.lexitem.specs.declared.fault.Fault.{Fault}
-use Rattle.lexitem.specs.declared.fault.FaultKind.{FaultKind}
-use Rattle.lexitem.specs.declared.fault.FaultKind.the-variants.{Short, Wrong, NoDigit, NoSign, Unknown}
+use Rattle.line.specs.declared.fault.Fault.{Fault}
+use Rattle.line.specs.declared.fault.FaultKind.{FaultKind}
+use Rattle.line.specs.declared.fault.FaultKind.the-variants.{Short, Wrong, NoDigit, NoSign, Unknown}
 use Rattle.lexitem.specs.declared.item.LexItem.{LexItem}
 use Rattle.lexitem.specs.declared.item.LexItem.the-variants as item
 use Rattle.page.specs.Numerals.{decimalBefore, decimal}
-use Rattle.records.specs.Seqadv.{hasTarget, targetOf}
-use Rattle.records.specs.Seqres.{triplesOf}
-use Rattle.records.specs.Ssbond.{hasTail, tailOf}
-use Rattle.rows.specs.Fields.{fieldsOf, tripleRow, tripleRows, targetName, targetNumber, tailFirst, tailSecond, tailLength}
-use Rattle.rows.specs.Name.{nameOf}
-use Rattle.rows.specs.declared.row.Value.{Value}
-use Rattle.rows.specs.declared.row.Value.the-variants.{Words, Nothing}
+use Rattle.atom.specs.Atom as atom
+use Rattle.crystal.specs.Crystal as crystal
+use Rattle.dbref.specs.Dbref as dbref
+use Rattle.modres.specs.Modres as modres
+use Rattle.remark.specs.Remark as remark
+use Rattle.seqadv.specs.Seqadv as seqadv
+use Rattle.seqadv.specs.Seqadv.{hasTarget, targetOf, targetName, targetNumber}
+use Rattle.seqres.specs.Seqres.{tripleAt, triplesOf, tripleText, tripleRow, tripleRows}
+use Rattle.ssbond.specs.Ssbond as ssbond
+use Rattle.ssbond.specs.Ssbond.{hasTail, tailOf, tailFirst, tailSecond, tailLength}
+use Rattle.lexitem.specs.Item.{fieldsOf, kindOfItem}
+use Rattle.kind.proofs.Laws.Name.{name-most}
+use Rattle.row.specs.declared.Value.{Value}
+use Rattle.row.specs.declared.Value.the-variants.{Words, Nothing}
 use Rattle.listing.specs.Each.{each}
 use Rattle.listing.specs.Listed.{listingBy}
 use Rattle.listing.specs.Listing.{numberRow, faultBytes, faultsBytes, listingOf, longest}
@@ -43,7 +50,7 @@ use Rattle.listing.proofs.Laws.Room.{decimal-most, roomOf, rowsRoom, ro
 module _ (l : List ℕ) where
   -- SEQADV's residue and SSBOND's tail, if the line has them
   name-room : (b : Bool) → roomOf (targetName (targetOf b l)) ≤ 9
-  name-room true = let h = text-most l (39 ⋯ 42) in omega arith
+  name-room true = let h = text-most l (seqadv.at seqadv.Field.name) in omega arith
   name-room false = lit≤ tt
 
   number-room : (b : Bool) → roomOf (targetNumber (targetOf b l)) ≤ 21
@@ -51,11 +58,11 @@ module _ (l : List ℕ) where
   number-room false = lit≤ tt
 
   first-room : (b : Bool) → roomOf (tailFirst (tailOf b l)) ≤ 18
-  first-room true = let h = text-most l (59 ⋯ 65) in omega arith
+  first-room true = let h = text-most l (ssbond.at (ssbond.Field.operator ssbond.Side.first)) in omega arith
   first-room false = lit≤ tt
 
   second-room : (b : Bool) → roomOf (tailSecond (tailOf b l)) ≤ 18
-  second-room true = let h = text-most l (66 ⋯ 72) in omega arith
+  second-room true = let h = text-most l (ssbond.at (ssbond.Field.operator ssbond.Side.second)) in omega arith
   second-room false = lit≤ tt
 
   length-room : (b : Bool) → roomOf (tailLength (tailOf b l)) ≤ 16
@@ -67,84 +74,57 @@ unfolding tripleRow
 triples-room ℕ.zero index triples = omega arith
 triples-room (suc k) index triples =
     let h = one (ltb index triples) in
-    let d = decimal-most (19 + 4 * index) in
+    let d = decimal-most (tripleAt index) in
     let ih = triples-room k (index + 1) triples in
     omega arith
   where
-    one : (b : Bool) → roomOf (cond {A = Value} b (Words (record { place = 19 + 4 * index; length = 3 })) Nothing) ≤ 9
+    one : (b : Bool) → roomOf (cond {A = Value} b (Words (tripleText index)) Nothing) ≤ 9
     one true = lit≤ tt
     one false = lit≤ tt
 
-kind-room : (k : Kind) (l : List ℕ) → length l ≤ 1024 → rowsRoom (fieldsOf (itemOf k l)) ≤ 3091
+kind-room : (k : Kind) (g : Given) → length (g .line) ≤ 1024 → rowsRoom (fieldsOf (itemOf k g)) ≤ 3091
 unfolding decimal decimalBefore
-kind-room Empty l h = lit≤ tt
-kind-room Header l h = lit≤ tt
-kind-room Remark l h = omega (arith, end-most l 11)
-kind-room Atom l h = omega (arith, text-most l (12 ⋯ 16), text-most l (17 ⋯ 20), text-most l (72 ⋯ 76), text-most l (76 ⋯ 78))
-kind-room Hetatm l h = omega (arith, text-most l (12 ⋯ 16), text-most l (17 ⋯ 20), text-most l (72 ⋯ 76), text-most l (76 ⋯ 78))
-kind-room Anisou l h = omega (arith, text-most l (12 ⋯ 16), text-most l (17 ⋯ 20), text-most l (72 ⋯ 76), text-most l (76 ⋯ 78))
-kind-room Cryst1 l h = omega (arith, within-most l (55 ⋯ 66))
-kind-room (Scale row) l h = lit≤ tt
-kind-room (Origx row) l h = lit≤ tt
-kind-room (Mtrix row) l h = lit≤ tt
-kind-room Model l h = lit≤ tt
-kind-room Master l h = lit≤ tt
-kind-room Dbref l h =
+kind-room Empty g h = lit≤ tt
+kind-room Header g h = lit≤ tt
+kind-room Remark g h = omega (arith, end-most (g .line) remark.textFrom)
+kind-room Atom g h = omega (arith, text-most (g .line) (atom.at atom.Field.name), text-most (g .line) (atom.at atom.Field.residue), text-most (g .line) (atom.at atom.Field.segment), text-most (g .line) (atom.at atom.Field.element))
+kind-room Hetatm g h = omega (arith, text-most (g .line) (atom.at atom.Field.name), text-most (g .line) (atom.at atom.Field.residue), text-most (g .line) (atom.at atom.Field.segment), text-most (g .line) (atom.at atom.Field.element))
+kind-room Anisou g h = omega (arith, text-most (g .line) (atom.at atom.Field.name), text-most (g .line) (atom.at atom.Field.residue), text-most (g .line) (atom.at atom.Field.segment), text-most (g .line) (atom.at atom.Field.element))
+kind-room Cryst1 g h = omega (arith, within-most (g .line) (crystal.at crystal.Field.spacegroup))
+kind-room (Scale row) g h = lit≤ tt
+kind-room (Origx row) g h = lit≤ tt
+kind-room (Mtrix row) g h = lit≤ tt
+kind-room Model g h = lit≤ tt
+kind-room Master g h = lit≤ tt
+kind-room Dbref g h =
     omega
-    (arith, text-most l (7 ⋯ 11), text-most l (12 ⋯ 13), text-most l (26 ⋯ 32), text-most l (33 ⋯ 41), text-most l (42 ⋯ 54))
-kind-room Dbref1 l h =
-    omega (arith, text-most l (7 ⋯ 11), text-most l (12 ⋯ 13), text-most l (26 ⋯ 32), text-most l (47 ⋯ 67))
-kind-room Dbref2 l h = omega (arith, text-most l (7 ⋯ 11), text-most l (12 ⋯ 13), text-most l (18 ⋯ 40))
-kind-room Seqres l h = omega (arith, triples-room 13 0 (triplesOf l))
-kind-room Seqadv l h =
+    (arith, text-most (g .line) (dbref.at dbref.Field.code), text-most (g .line) (dbref.at dbref.Field.chain), text-most (g .line) (dbref.at dbref.Field.database), text-most (g .line) (dbref.at dbref.Field.accession), text-most (g .line) (dbref.at dbref.Field.name))
+kind-room Dbref1 g h =
+    omega (arith, text-most (g .line) (dbref.at dbref.Field.code), text-most (g .line) (dbref.at dbref.Field.chain), text-most (g .line) (dbref.at dbref.Field.database), text-most (g .line) (dbref.at dbref.Field.name1))
+kind-room Dbref2 g h = omega (arith, text-most (g .line) (dbref.at dbref.Field.code), text-most (g .line) (dbref.at dbref.Field.chain), text-most (g .line) (dbref.at dbref.Field.accession2))
+kind-room Seqres g h = omega (arith, triples-room 13 0 (triplesOf (g .line)))
+kind-room Seqadv g h =
     omega (
       arith,
-      text-most l (7 ⋯ 11),
-      text-most l (12 ⋯ 15),
-      text-most l (16 ⋯ 17),
-      text-most l (24 ⋯ 28),
-      text-most l (29 ⋯ 38),
-      name-room l (hasTarget l),
-      number-room l (hasTarget l),
-      from-most l 49,
+      text-most (g .line) (seqadv.at seqadv.Field.code),
+      text-most (g .line) (seqadv.at seqadv.Field.residue),
+      text-most (g .line) (seqadv.at seqadv.Field.chain),
+      text-most (g .line) (seqadv.at seqadv.Field.database),
+      text-most (g .line) (seqadv.at seqadv.Field.accession),
+      name-room (g .line) (hasTarget (g .line)),
+      number-room (g .line) (hasTarget (g .line)),
+      from-most (g .line) seqadv.commentFrom,
     )
-kind-room Modres l h =
-    omega (arith, text-most l (7 ⋯ 11), text-most l (12 ⋯ 15), text-most l (24 ⋯ 27), from-most l 29)
-kind-room Ssbond l h =
+kind-room Modres g h =
+    omega (arith, text-most (g .line) (modres.at modres.Field.code), text-most (g .line) (modres.at modres.Field.residue), text-most (g .line) (modres.at modres.Field.standard), from-most (g .line) modres.commentFrom)
+kind-room Ssbond g h =
     omega
-    (arith, text-most l (11 ⋯ 14), text-most l (25 ⋯ 28), first-room l (hasTail l), second-room l (hasTail l), length-room l (hasTail l))
-kind-room Endmdl l h = lit≤ tt
-kind-room Ter l h = lit≤ tt
-kind-room End l h = lit≤ tt
+    (arith, text-most (g .line) (ssbond.at (ssbond.Field.name ssbond.Side.first)), text-most (g .line) (ssbond.at (ssbond.Field.name ssbond.Side.second)), first-room (g .line) (hasTail (g .line)), second-room (g .line) (hasTail (g .line)), length-room (g .line) (hasTail (g .line)))
+kind-room Endmdl g h = lit≤ tt
+kind-room Ter g h = lit≤ tt
+kind-room End g h = lit≤ tt
 
 -- ---- the other rows
-name-most : (x : LexItem) → length (nameOf x) ≤ 6
-name-most item.Empty = lit≤ tt
-name-most (item.Header h) = lit≤ tt
-name-most (item.Remark r) = lit≤ tt
-name-most (item.Atom a) = go (a .hetero)
-  where
-    go : (b : Bool) → length (cond b (bytes "HETATM") (bytes "ATOM")) ≤ 6
-    go true = lit≤ tt
-    go false = lit≤ tt
-name-most (item.Anisou a) = lit≤ tt
-name-most (item.Crystal c) = lit≤ tt
-name-most (item.Scale s) = lit≤ tt
-name-most (item.OrigX o) = lit≤ tt
-name-most (item.MtriX m) = lit≤ tt
-name-most (item.Model m) = lit≤ tt
-name-most (item.Master m) = lit≤ tt
-name-most (item.Seqres s) = lit≤ tt
-name-most (item.Dbref d) = lit≤ tt
-name-most (item.Dbref1 d) = lit≤ tt
-name-most (item.Dbref2 d) = lit≤ tt
-name-most (item.Seqadv s) = lit≤ tt
-name-most (item.Modres m) = lit≤ tt
-name-most (item.SSBond s) = lit≤ tt
-name-most item.EndModel = lit≤ tt
-name-most item.Ter = lit≤ tt
-name-most item.End = lit≤ tt
-
 kind-digit : (k : FaultKind) → length (decimal (numberOf k)) ≤ 1
 unfolding decimal decimalBefore
 kind-digit Short = lit≤ tt
@@ -179,7 +159,7 @@ listing-most : (n : ℕ) (l : List ℕ) (x : LexItem) (fs : List Fault) (room : 
     → length fs ≤ 16 → length (listingOf n l x fs) ≤ room + 868
 unfolding listingOf
 listing-most n l x fs room h few =
-    let name = name-most x in
+    let name = name-most (kindOfItem x) in
     let line = number-most (bytes "line=") n in
     let total = number-most (bytes "faults=") (length fs) in
     let each = faults-most fs in
@@ -187,8 +167,8 @@ listing-most n l x fs room h few =
 
 pub listing-longest : (i : Input) (x : LexItem) → lexed i .outcome ≡ Accepted x → length (listingBy i x) ≤ longest
 listing-longest i x e =
-    let fields = fieldsOf (itemOf (kind i) (i .line)) in
+    let fields = fieldsOf (itemOf (kind i) (given i)) in
     let most = rows-room (i .line) fields in
-    let room = kind-room (kind i) (i .line) (accepted-line i x e) in
-    let all = listing-most (i .number) (i .line) (itemOf (kind i) (i .line)) (listed (lexed i .faults)) 3091 (omega arith) (rw (accepted-faults i x e) (accepted-few i x e)) in
+    let room = kind-room (kind i) (given i) (accepted-line i x e) in
+    let all = listing-most (i .number) (i .line) (itemOf (kind i) (given i)) (listed (lexed i .faults)) 3091 (omega arith) (rw (accepted-faults i x e) (accepted-few i x e)) in
     rw (accepted-item i x e) (omega arith)

@@ -12,22 +12,22 @@ use lib.Ieee.{binary64, toBits}
 use lib.ListN.{length, take, drop, length-append, length-take, length-drop}
 use lib.Dec.{ltb, leb, eqb, lit≤}
 use Rattle.field.specs.Text.{textOf, shifted, textAt, textWithin, textFrom, endTextFrom}
-use Rattle.lexitem.specs.Columns.{partOf, reachedOf, restOf}
-use Rattle.lexitem.specs.Text.{withinOf}
-use Rattle.lexitem.specs.declared.columns.Columns.{Columns}
-use Rattle.lexitem.specs.declared.text.Character.{Character}
-use Rattle.lexitem.specs.declared.text.Character.the-variants.{At, Unreached, Absent}
-use Rattle.lexitem.specs.declared.text.Field.the-variants as field
-use Rattle.lexitem.specs.declared.text.Text.{Text}
+use Rattle.line.specs.Columns.{partOf, reachedOf, restOf}
+use Rattle.line.specs.Text.{withinOf}
+use Rattle.line.specs.declared.columns.Columns.{Columns}
+use Rattle.line.specs.declared.text.Character.{Character}
+use Rattle.line.specs.declared.text.Character.the-variants.{At, Unreached, Absent}
+use Rattle.line.specs.declared.text.Field.the-variants as field
+use Rattle.line.specs.declared.text.Text.{Text}
 use Rattle.number.specs.Trim.{trimmed, kept, leading, spanOf}
 use Rattle.number.specs.declared.trim.Span.{Span}
 use Rattle.number.proofs.Laws.Trim.{trimmed-le, kept-le}
 use Rattle.page.specs.Numerals.{decimalBefore, decimal, signedDecimal, escaped}
 use Rattle.page.proofs.Laws.Escaped.{escaped-length}
 use Rattle.page.proofs.Laws.Hex.{hex16-length}
-use Rattle.rows.specs.declared.row.Row.{Row}
-use Rattle.rows.specs.declared.row.Value.{Value}
-use Rattle.rows.specs.declared.row.Value.the-variants.{Unsigned, Signed, Real, Words, One, Flag, Nothing}
+use Rattle.row.specs.declared.Row.{Row}
+use Rattle.row.specs.declared.Value.{Value}
+use Rattle.row.specs.declared.Value.the-variants.{Unsigned, Signed, Real, Words, One, Flag, Nothing}
 use Rattle.listing.specs.Each.{each}
 use Rattle.listing.specs.Row.{present, fieldBytes, valueBytes, rowBytes, rowsBytes}
 

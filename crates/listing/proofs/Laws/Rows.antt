@@ -9,8 +9,9 @@ use lib.Dec.{lit≤}
 use lib.ListN.{length}
 use Rattle.lexitem.specs.declared.item.LexItem.{LexItem}
 use Rattle.lexitem.specs.declared.item.LexItem.the-variants.{Empty, Header, Remark, Atom, Anisou, Crystal, Scale, OrigX, MtriX, Model, Master, Seqres, Dbref, Dbref1, Dbref2, Seqadv, Modres, SSBond, EndModel, Ter, End}
-use Rattle.rows.specs.Fields.{fieldsOf, padded}
-use Rattle.rows.specs.declared.row.Row.{Row}
+use Rattle.lexitem.specs.Item.{fieldsOf}
+use Rattle.row.specs.Rows.{padded}
+use Rattle.row.specs.declared.Row.{Row}
 use Rattle.listing.specs.Each.{each}
 use Rattle.listing.specs.Row.{rowBytes, rowsBytes}
 

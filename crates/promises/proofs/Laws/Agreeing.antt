@@ -17,39 +17,40 @@ use lib.Dec.{ltb, leb, eqb}
 use Rattle.number.specs.Trim.{kept, endTrimmed}
 use Rattle.number.proofs.Laws.Choice.{and-left, and-right, and-both, clash}
 use Rattle.number.proofs.Laws.Trim.{kept-le}
-use Rattle.lexitem.specs.Faults.{blankFault}
+use Rattle.line.specs.Faults.{blankFault}
 use Rattle.lexitem.specs.declared.answer.Refusal.{Refusal}
 use Rattle.kind.specs.declared.Kind.{Kind}
 use Rattle.kind.specs.declared.Kind.the-variants.{Empty, Header, Remark, Atom, Hetatm, Anisou, Cryst1, Scale, Origx, Mtrix, Model, Master, Dbref, Dbref1, Dbref2, Seqres, Seqadv, Modres, Ssbond, Endmdl, Ter, End}
-use Rattle.lexer.specs.Refusals.{Input, Row, kind, faults, plain, boundOf, headerCut, remarkLong, missing, row, rows, seventeenth}
-use Rattle.lexer.specs.Steps.{refusal}
-use Rattle.lexer.specs.declared.bound.Bound.{Bound}
-use Rattle.lexer.specs.declared.bound.Bound.the-variants as bound
+use Rattle.lexer.specs.Refusals.{Input, Test, kind, given, faults, plain, headerCut, remarkLong, missing, test, tests, seventeenth}
+use Rattle.lexitem.specs.Describe.{boundOf}
+use Rattle.lexitem.specs.Answer.{refusal}
+use Rattle.lexitem.specs.declared.bound.Bound.{Bound}
+use Rattle.lexitem.specs.declared.bound.Bound.the-variants as bound
 use Rattle.promises.specs.Refusing.{Rule, FirstHigh, Least, Seventeenth, rules, tableRule, lengthRule, byteRule, headerRule, remarkRule, leastRule, faultRule}
 
-abbrev pub Agrees : Row → Rule → Type 0
+abbrev pub Agrees : Test → Rule → Type 0
 Agrees x rule = (x .holds ≡ true → rule (x .gives)) × ((r : Refusal) → rule r → (x .holds ≡ true) × (r ≡ x .gives))
 
-abbrev pub AllAgree : List Row → List Rule → Type 0
+abbrev pub AllAgree : List Test → List Rule → Type 0
 AllAgree [] [] = Unit {0}
 AllAgree [] (rule ∷ rules) = ⊥
 AllAgree (x ∷ xs) [] = ⊥
 AllAgree (x ∷ xs) (rule ∷ rules) = Agrees x rule × AllAgree xs rules
 
 -- a row whose test says what a proposition says
-by-test : {P : Type 0} (x : Row) → (x .holds ≡ true → P) → (P → x .holds ≡ true) → Agrees x (λ r. P × (r ≡ x .gives))
+by-test : {P : Type 0} (x : Test) → (x .holds ≡ true → P) → (P → x .holds ≡ true) → Agrees x (λ r. P × (r ≡ x .gives))
 by-test x f g = (λ e. (f e, refl), λ r h. (g (h .0), h .1))
 
 -- ---- rows 1 to 3
-table-row : (i : Input) → Agrees (row (not (eqb (length (i .remarks)) 1000)) 1 0 0) (tableRule i)
+table-row : (i : Input) → Agrees (test (not (eqb (length (i .remarks)) 1000)) 1 0 0) (tableRule i)
 table-row i =
-    by-test (row (not (eqb (length (i .remarks)) 1000)) 1 0 0)
+    by-test (test (not (eqb (length (i .remarks)) 1000)) 1 0 0)
     (λ e. eqb-false (length (i .remarks)) 1000 (not-true (eqb (length (i .remarks)) 1000) e))
     (λ h. ap not (ne-eqb (length (i .remarks)) 1000 h))
 
-length-row : (i : Input) → Agrees (row (ltb 1024 (length (i .line))) 2 1024 (length (i .line) - 1024)) (lengthRule i)
+length-row : (i : Input) → Agrees (test (ltb 1024 (length (i .line))) 2 1024 (length (i .line) - 1024)) (lengthRule i)
 length-row i =
-    by-test (row (ltb 1024 (length (i .line))) 2 1024 (length (i .line) - 1024))
+    by-test (test (ltb 1024 (length (i .line))) 2 1024 (length (i .line) - 1024))
     (ltb-true 1024 (length (i .line)))
     (lt-ltb 1024 (length (i .line)))
 
@@ -82,7 +83,7 @@ plain-high (b ∷ t) (suc k) h =
     } in
     rw (lt-ltb b 128 (h .before 0 (omega arith))) (ap suc (plain-high t k later))
 
-byte-row : (i : Input) → Agrees (row (ltb (plain (i .line)) (length (i .line))) 3 (plain (i .line)) 1) (byteRule i)
+byte-row : (i : Input) → Agrees (test (ltb (plain (i .line)) (length (i .line))) 3 (plain (i .line)) 1) (byteRule i)
 byte-row i =
     let l = i .line in (
       λ e. (plain l, high-plain l (ltb-true (plain l) (length l) e), refl),
@@ -171,7 +172,7 @@ least-asked Least.seqadv = refl
 least-asked Least.ssbond = refl
 
 module _ (i : Input) where
-  header-row : Agrees (row (headerCut (boundOf (kind i)) (i .line)) 4 11 (length (i .line) - 11)) (headerRule i)
+  header-row : Agrees (test (headerCut (boundOf (kind i)) (i .line)) 4 11 (length (i .line) - 11)) (headerRule i)
   header-row =
       let k = kind i in
       let l = i .line in (
@@ -179,7 +180,7 @@ module _ (i : Input) where
         λ r h. (header-cut k l (h .0) (h .1), h .2),
       )
 
-  remark-row : Agrees (row (remarkLong (boundOf (kind i)) (i .line) (i .options .loose)) 5 80 (length (i .line) - 80)) (remarkRule i)
+  remark-row : Agrees (test (remarkLong (boundOf (kind i)) (i .line) (i .options .loose)) 5 80 (length (i .line) - 80)) (remarkRule i)
   remark-row =
       let k = kind i in
       let l = i .line in
@@ -188,7 +189,7 @@ module _ (i : Input) where
         λ r h. (remark-long k l loose (h .0) (h .1) (h .2) (h .3), h .4),
       )
 
-  least-row : Agrees (row (ltb 0 (missing (boundOf (kind i)) (i .line))) 6 (length (i .line)) (missing (boundOf (kind i)) (i .line))) (leastRule i)
+  least-row : Agrees (test (ltb 0 (missing (boundOf (kind i)) (i .line))) 6 (length (i .line)) (missing (boundOf (kind i)) (i .line))) (leastRule i)
   least-row =
       let k = kind i in
       let l = i .line in (
@@ -202,7 +203,7 @@ module _ (i : Input) where
       )
 
   -- ---- row 7
-  pub fault-row : Agrees (row (ltb 16 (length (faults i))) 7 (seventeenth (faults i) .place) (seventeenth (faults i) .length)) (faultRule i)
+  pub fault-row : Agrees (test (ltb 16 (length (faults i))) 7 (seventeenth (faults i) .place) (seventeenth (faults i) .length)) (faultRule i)
   fault-row =
       let fs = faults i in (
         λ e.
@@ -221,6 +222,6 @@ module _ (i : Input) where
             (lt-ltb 16 (length fs) n, rw f (h .2)),
       )
 
-  pub rules-agree : AllAgree (rows i) (rules i)
+  pub rules-agree : AllAgree (tests i) (rules i)
   rules-agree =
       (table-row i, (length-row i, (byte-row i, (header-row, (remark-row, (least-row, (fault-row, tt)))))))

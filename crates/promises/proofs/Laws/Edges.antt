@@ -9,15 +9,15 @@ use Rattle.number.specs.Whole.{digit, digits, valueFrom, begins, afterPlus, aft
 use Rattle.number.specs.Decimal.{beforePoint, behindPoint, withoutPoint, plainOf, decimalOf}
 use Rattle.number.specs.Double.{doubleOf}
 use Rattle.number.specs.Real.{realOf, tenThousandth, tenThousandthsOf}
-use Rattle.lexitem.specs.Columns.{partOf, reachedOf, restOf}
-use Rattle.lexitem.specs.Faults.{noFaults, noted, listed}
+use Rattle.line.specs.Columns.{partOf, reachedOf, restOf}
+use Rattle.line.specs.Faults.{noFaults, noted, listed}
 use Rattle.field.specs.Number.{numberFaults, unsignedAt, signedAt, realAt, factorAt, unsignedFrom, unsignedFromFaults}
 use Rattle.field.specs.Text.{textAt, textFaults, textWithin, textFrom, endTextFrom, characterAt, optionalAt, characterFaults}
 use Rattle.field.specs.Charge.{bothBlank, charged, chargeOf, chargeFaultsOf, chargeAt, chargeFaults, isKnown, knownFaults}
-use Rattle.records.specs.Seqadv.{blanks, hasTarget}
-use Rattle.records.specs.Seqres.{blankTriple, triplesFrom}
-use Rattle.kind.specs.Kind.{keptOf, kindOf}
-use Rattle.lexer.specs.Item.{faultsOf}
+use Rattle.seqadv.specs.Seqadv.{blanks, hasTarget}
+use Rattle.seqres.specs.Seqres.{blankTriple, triplesFrom}
+use Rattle.kind.specs.Kind.{kindOf}
+use Rattle.lexitem.specs.Describe.{faultsOf}
 use Rattle.lexer.specs.Refusals.{plain}
 use Rattle.lexer.specs.Lexed.{lexed}
 use Rattle.promises.specs.Edges.{CasesFound, edges}
@@ -32,7 +32,7 @@ unfolding
     numberFaults unsignedAt signedAt realAt factorAt unsignedFrom unsignedFromFaults
     textAt textFaults textWithin textFrom endTextFrom characterAt optionalAt characterFaults
     bothBlank charged chargeOf chargeFaultsOf chargeAt chargeFaults isKnown knownFaults
-    blanks hasTarget blankTriple triplesFrom keptOf kindOf faultsOf plain lexed
+    blanks hasTarget blankTriple triplesFrom kindOf faultsOf plain lexed
 opened = tt
 
 infixr 5 _&_

@@ -7,10 +7,10 @@
 use Prim.Native.Nat.{_≤_}
 use mathlib.Core.Path.{_≡_}
 use lib.ListN.{length}
-use Rattle.lexitem.specs.Faults.{listed}
+use Rattle.line.specs.Faults.{listed}
 use Rattle.lexitem.specs.declared.answer.Outcome.the-variants.{Accepted}
 use Rattle.lexitem.specs.declared.item.LexItem.{LexItem}
-use Rattle.lexer.specs.Item.{faultsOf}
+use Rattle.lexitem.specs.Describe.{faultsOf}
 use Rattle.lexer.specs.Lexed.{lexed}
 use Rattle.lexer.specs.Refusals.{Input, kind, given}
 use Rattle.lexer.proofs.Laws.Accepted.{accepted-few, accepted-faults, accepted-count}

@@ -18,20 +18,21 @@ use Rattle.number.specs.Whole.{digit, unsignedOf}
 use Rattle.field.specs.Number.{isU, faultAt, shortAt, wrongAt, numberFaults, unsignedAt, restColumns, unsignedFromFaults}
 use Rattle.field.specs.Text.{unreached, textFaults, characterFaults}
 use Rattle.field.specs.Charge.{isSign, charged, chargeFaults, chargeFaultsOf, isKnown, knownFaults}
-use Rattle.field.specs.Table.{Entry, Given, faultsBy, tableFaults}
+use Rattle.line.specs.Given.{Given}
+use Rattle.field.specs.Table.{Entry, faultsBy, tableFaults}
 use Rattle.kind.specs.declared.Kind.{Kind}
 use Rattle.kind.specs.declared.Kind.the-variants.{Empty, Header, Remark, Atom, Hetatm, Anisou, Cryst1, Scale, Origx, Mtrix, Model, Master, Dbref, Dbref1, Dbref2, Seqres, Seqadv, Modres, Ssbond, Endmdl, Ter, End}
-use Rattle.lexer.specs.Item.{tableOf, partial, faultsOf}
+use Rattle.lexitem.specs.Describe.{tableOf, describe, faultsOf}
 use Rattle.lexer.specs.Lexed.{lexed}
 use Rattle.lexer.specs.Refusals.{Input, kind, given}
-use Rattle.lexitem.specs.Columns.{partOf, restOf}
-use Rattle.lexitem.specs.declared.columns.Columns.{Columns}
+use Rattle.line.specs.Columns.{partOf, restOf}
+use Rattle.line.specs.declared.columns.Columns.{Columns}
 use Rattle.lexitem.specs.declared.answer.Outcome.the-variants.{Refused}
 use Rattle.lexitem.specs.declared.answer.Refusal.{Refusal}
-use Rattle.lexitem.specs.declared.fault.Fault.{Fault}
-use Rattle.lexitem.specs.declared.fault.FaultKind.the-variants.{NoDigit, NoSign, Unknown}
-use Rattle.lexitem.specs.declared.fault.Sort.{Sort}
-use Rattle.lexitem.specs.declared.fault.Sort.the-variants.{Unsigned}
+use Rattle.line.specs.declared.fault.Fault.{Fault}
+use Rattle.line.specs.declared.fault.FaultKind.the-variants.{NoDigit, NoSign, Unknown}
+use Rattle.line.specs.declared.fault.Sort.{Sort}
+use Rattle.line.specs.declared.fault.Sort.the-variants.{Unsigned}
 use Rattle.promises.specs.Refusing.{Silent, First, rules, faultRule}
 use Rattle.promises.proofs.Laws.Refusing.{refused-when}
 
@@ -66,13 +67,14 @@ entry-one g (Entry.u at) = number-one (g .line) at _ _
 entry-one g (Entry.i at) = number-one (g .line) at _ _
 entry-one g (Entry.r at default) = number-one (g .line) at _ _
 entry-one g (Entry.t at) = either (ltb (length (g .line)) (at .end)) (shortAt at ∷ []) [] (lit≤ tt) (lit≤ tt)
-entry-one g (Entry.c column) = least (ltb column (length (g .line))) (unreached column)
-entry-one g (Entry.c? column) = least (ltb column (length (g .line))) (unreached column)
+entry-one g (Entry.c at) = least (ltb (at .start) (length (g .line))) (unreached (at .start))
+entry-one g (Entry.c? at) = least (ltb (at .start) (length (g .line))) (unreached (at .start))
 entry-one g (Entry.a at) = number-one (g .line) at _ _
 entry-one g (Entry.u-rest start) = least (isU (unsignedOf (restOf (g .line) start))) (wrongAt Unsigned (restColumns (g .line) start))
 entry-one g (Entry.x at) = lit≤ tt
 entry-one g (Entry.t-within at) = lit≤ tt
 entry-one g (Entry.t-rest start) = lit≤ tt
+entry-one g (Entry.t-end start) = lit≤ tt
 entry-one g (Entry.charge at) = charge-one (g .line) at
 entry-one g (Entry.known at) = least (isKnown (g .remarks) (unsignedAt (g .line) at)) (faultAt Unknown at)
 entry-one g (Entry.given column) = lit≤ tt
@@ -113,7 +115,7 @@ table-sixteen End part = lit≤ tt
 pub faults-sixteen : (k : Kind) (g : Given) → length (faultsOf k g) ≤ 16
 unfolding faultsOf
 faults-sixteen k g =
-    let part = partial k (g .line) in omega (arith, table-most g (tableOf k part), table-sixteen k part)
+    let part = describe k .part (g .line) in omega (arith, table-most g (tableOf k part), table-sixteen k part)
 
 -- ---- so no line has a 17th fault
 module _ (i : Input) where

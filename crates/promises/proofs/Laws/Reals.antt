@@ -15,11 +15,11 @@ use native.Mathlib.Omega.{arith}
 use lib.Dec.{T}
 use lib.Ieee.Scale.{finite}
 use Rattle.number.proofs.Laws.Tells.{near-tells, near-finite}
-use Rattle.lexitem.specs.Faults.{listed}
+use Rattle.line.specs.Faults.{listed}
 use Rattle.lexitem.specs.declared.answer.Outcome.the-variants.{Accepted}
 use Rattle.lexitem.specs.declared.item.LexItem.{LexItem}
 use Rattle.field.specs.Table.{Entry, tableFaults}
-use Rattle.lexer.specs.Item.{tableOf, partial, itemOf, faultsOf}
+use Rattle.lexitem.specs.Describe.{fieldsBy, itemOf, faultsOf}
 use Rattle.lexer.specs.Refusals.{Input, kind, given}
 use Rattle.lexer.specs.Lexed.{lexed}
 use Rattle.lexer.proofs.Laws.Accepted.{accepted-item, accepted-faults}
@@ -30,11 +30,11 @@ use Rattle.promises.proofs.Laws.RealsField.{Told, field-told, written-o
 
 -- the table of a line's fields
 abbrev pub tableIn : Input → List Entry
-tableIn i = tableOf (kind i) (partial (kind i) (i .line))
+tableIn i = fieldsBy (kind i) (i .line)
 
 module _ (i : Input) where
   module _ (x : LexItem) (yes : lexed i .outcome ≡ Accepted x) where
-    line-item : x ≡ itemOf (kind i) (i .line)
+    line-item : x ≡ itemOf (kind i) (given i)
     line-item = accepted-item i x yes
 
     line-faults : listed (lexed i .faults) ≡ tableFaults (given i) (tableIn i)
@@ -42,13 +42,13 @@ module _ (i : Input) where
     line-faults = accepted-faults i x yes
 
     pub reals-all : map entryOf (realsOf x) ≡ chosen isReal (tableIn i)
-    reals-all = rw line-item (reals-stand (i .line) (kind i) .0)
+    reals-all = rw line-item (reals-stand (given i) (kind i) .0)
 
     module _ (f : RealField) (of : List·Memᴰ f (realsOf x)) where
       line-look : looked (tableIn i) f ≡ due (i .line) f
       line-look =
-          let stand = reals-stand (i .line) (kind i) in
-          looks-due (tableIn i) (i .line) (realsOf (itemOf (kind i) (i .line))) (stand .1) f (rw line-item at of)
+          let stand = reals-stand (given i) (kind i) in
+          looks-due (tableIn i) (i .line) (realsOf (itemOf (kind i) (given i))) (stand .1) f (rw line-item at of)
 
       line-told : (s : Bool) (m p : ℕ) → Written (i .line) f s m p → Told s m p (readIn (i .line) f) (f .value)
       line-told = field-told (given i) (tableIn i) f line-look

@@ -28,13 +28,14 @@ use Rattle.number.specs.declared.real.Real.{Real}
 use Rattle.number.specs.declared.real.Real.the-variants.{R, NotR}
 use Rattle.number.proofs.Laws.Real.{real-is, real-not, decimal-near, ten-thousandths-near}
 use Rattle.number.proofs.Laws.Width.{signed-within, decimal-limits}
-use Rattle.lexitem.specs.Columns.{partOf}
-use Rattle.lexitem.specs.declared.columns.Columns.{Columns}
-use Rattle.lexitem.specs.declared.fault.FaultKind.the-variants.{Short, Wrong}
-use Rattle.lexitem.specs.declared.fault.Sort.{Sort}
-use Rattle.lexitem.specs.declared.fault.Sort.the-variants.{Signed as ISort, Real as RSort}
+use Rattle.line.specs.Columns.{partOf}
+use Rattle.line.specs.declared.columns.Columns.{Columns}
+use Rattle.line.specs.declared.fault.FaultKind.the-variants.{Short, Wrong}
+use Rattle.line.specs.declared.fault.Sort.{Sort}
+use Rattle.line.specs.declared.fault.Sort.the-variants.{Signed as ISort, Real as RSort}
 use Rattle.field.specs.Number.{numberFaults, faultAt, isR, orR}
-use Rattle.field.specs.Table.{Given, Entry, tableFaults}
+use Rattle.line.specs.Given.{Given}
+use Rattle.field.specs.Table.{Entry, tableFaults}
 use Rattle.field.proofs.Laws.Fields.{part-short, real-none, factor-none}
 use Rattle.promises.specs.Reals.{Form, RealField, namedBy, inTenThousandths, saidBy, Written, Filled, Unwritten, Kept}
 use Rattle.promises.proofs.Laws.RealsNamed.{none-named, own-named, chosen-named}

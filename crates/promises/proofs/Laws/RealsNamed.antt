@@ -13,18 +13,19 @@ use lib.ListN.{length, getD}
 use lib.Dec.{ltb, eqb}
 use Rattle.number.specs.Whole.{digit, unsignedOf, signedOf}
 use Rattle.number.specs.Real.{realOf, tenThousandthsOf}
-use Rattle.lexitem.specs.Columns.{partOf, restOf}
-use Rattle.lexitem.specs.declared.columns.Columns.{Columns}
-use Rattle.lexitem.specs.declared.fault.Fault.{Fault}
-use Rattle.lexitem.specs.declared.fault.FaultKind.{FaultKind}
-use Rattle.lexitem.specs.declared.fault.FaultKind.the-variants.{Short, NoDigit, NoSign, Unknown}
-use Rattle.lexitem.specs.declared.fault.Sort.{Sort}
-use Rattle.lexitem.specs.declared.fault.Sort.the-variants.{Unsigned as USort, Signed as ISort, Real as RSort}
+use Rattle.line.specs.Columns.{partOf, restOf}
+use Rattle.line.specs.declared.columns.Columns.{Columns}
+use Rattle.line.specs.declared.fault.Fault.{Fault}
+use Rattle.line.specs.declared.fault.FaultKind.{FaultKind}
+use Rattle.line.specs.declared.fault.FaultKind.the-variants.{Short, NoDigit, NoSign, Unknown}
+use Rattle.line.specs.declared.fault.Sort.{Sort}
+use Rattle.line.specs.declared.fault.Sort.the-variants.{Unsigned as USort, Signed as ISort, Real as RSort}
 use Rattle.field.specs.Number.{numberFaults, unsignedFromFaults, unsignedAt, isU, isI, isR, faultAt, shortAt, wrongAt, restColumns}
 use Rattle.field.specs.Text.{textFaults, characterFaults}
 use Rattle.field.specs.Charge.{charged, isSign, chargeFaults, chargeFaultsOf, isKnown, knownFaults}
-use Rattle.field.specs.Table.{Given, Entry, faultsBy, tableFaults}
-use Rattle.field.specs.Table.Entry.{u, i, r, t, c, c?, a, u-rest, x, t-within, t-rest, charge, known, given, unwritten, triples}
+use Rattle.line.specs.Given.{Given}
+use Rattle.field.specs.Table.{Entry, faultsBy, tableFaults}
+use Rattle.field.specs.Table.Entry.{u, i, r, t, c, c?, a, u-rest, x, t-within, t-rest, t-end, charge, known, given, unwritten, triples}
 use Rattle.promises.specs.Reals.{names, namedBy}
 
 -- ---- the entries that can
@@ -41,13 +42,14 @@ may at (u columns) = same at columns
 may at (i columns) = same at columns
 may at (r columns default) = same at columns
 may at (t columns) = same at columns
-may at (c column) = single at
-may at (c? column) = single at
+may at (c columns) = single at
+may at (c? columns) = single at
 may at (a columns) = same at columns
 may at (u-rest start) = eqb start (at .start)
 may at (x columns) = false
 may at (t-within columns) = false
 may at (t-rest start) = false
+may at (t-end start) = false
 may at (charge columns) = single at
 may at (known columns) = same at columns
 may at (given column) = false
@@ -117,14 +119,15 @@ module _ (at : Columns) where
   entry-clear g (i columns) e = number-clear (g .line) columns ISort (isI (signedOf (partOf (g .line) columns))) e
   entry-clear g (r columns default) e = number-clear (g .line) columns RSort (isR (realOf (partOf (g .line) columns))) e
   entry-clear g (t columns) e = either-clear (ltb (length (g .line)) (columns .end)) (shortAt columns) [] e none-named
-  entry-clear g (c column) e = character-clear (g .line) column e
-  entry-clear g (c? column) e = character-clear (g .line) column e
+  entry-clear g (c columns) e = character-clear (g .line) (columns .start) e
+  entry-clear g (c? columns) e = character-clear (g .line) (columns .start) e
   entry-clear g (a columns) e = number-clear (g .line) columns ISort (isR (tenThousandthsOf (partOf (g .line) columns))) e
   entry-clear g (u-rest start) e =
       unless-clear (isU (unsignedOf (restOf (g .line) start))) (wrongAt USort (restColumns (g .line) start)) (rw e refl)
   entry-clear g (x columns) e = none-named
   entry-clear g (t-within columns) e = none-named
   entry-clear g (t-rest start) e = none-named
+  entry-clear g (t-end start) e = none-named
   entry-clear g (charge columns) e = charge-clear (g .line) columns e
   entry-clear g (known columns) e =
       unless-clear (isKnown (g .remarks) (unsignedAt (g .line) columns)) (faultAt Unknown columns) e

@@ -16,18 +16,19 @@ use lib.Ieee.{Float}
 use lib.Ieee.Scale.{finite}
 use Rattle.number.specs.Real.{realOf, tenThousandthsOf}
 use Rattle.number.specs.declared.real.Real.{Real}
-use Rattle.lexitem.specs.Columns.{partOf}
-use Rattle.lexitem.specs.declared.columns.Columns.{Columns}
+use Rattle.line.specs.Columns.{partOf}
+use Rattle.line.specs.declared.columns.Columns.{Columns}
 use Rattle.lexitem.specs.declared.item.LexItem.the-variants as item
+use Rattle.line.specs.Given.{Given}
 use Rattle.field.specs.Number.{realAt, factorAt, orR}
 use Rattle.field.specs.Table.{Entry}
-use Rattle.field.specs.Table.Entry.{u, i, r, t, c, c?, a, u-rest, x, t-within, t-rest, charge, known, given, unwritten, triples}
-use Rattle.records.specs.Crystal.{hasZ, crystalTable, crystalOf}
-use Rattle.records.specs.Seqadv.{hasTarget, seqadvTable}
-use Rattle.records.specs.Ssbond.{hasTail, ssbondTable, tailOf}
+use Rattle.field.specs.Table.Entry.{u, i, r, t, c, c?, a, u-rest, x, t-within, t-rest, t-end, charge, known, given, unwritten, triples}
+use Rattle.crystal.specs.Crystal.{hasZ, crystalTable, crystalOf}
+use Rattle.seqadv.specs.Seqadv.{hasTarget, seqadvTable}
+use Rattle.ssbond.specs.Ssbond.{hasTail, ssbondTable, tailOf}
 use Rattle.kind.specs.declared.Kind.{Kind}
 use Rattle.kind.specs.declared.Kind.the-variants.{Empty, Header, Remark, Atom, Hetatm, Anisou, Cryst1, Scale, Origx, Mtrix, Model, Master, Dbref, Dbref1, Dbref2, Seqres, Seqadv, Modres, Ssbond, Endmdl, Ter, End}
-use Rattle.lexer.specs.Item.{tableOf, partial, itemOf}
+use Rattle.lexitem.specs.Describe.{fieldsBy, itemOf}
 use Rattle.promises.specs.Reals.{Form, RealField, realsOf, tailReals}
 use Rattle.promises.proofs.Laws.RealsNamed.{may, chosen}
 
@@ -97,6 +98,7 @@ isReal (u-rest start) = false
 isReal (x columns) = false
 isReal (t-within columns) = false
 isReal (t-rest start) = false
+isReal (t-end start) = false
 isReal (charge columns) = false
 isReal (known columns) = false
 isReal (given column) = false
@@ -107,7 +109,10 @@ isReal (triples start) = false
 abbrev pub Stand : List ℕ → List Entry → List RealField → Type 0
 Stand l es fs = (map entryOf fs ≡ chosen isReal es) × (map (looked es) fs ≡ map (due l) fs)
 
-module _ (l : List ℕ) where
+module _ (g : Given) where
+  abbrev l : List ℕ
+  l = g .line
+
   crystal-stand : (b : Bool) → Stand l (crystalTable b) (realsOf (item.Crystal (crystalOf l)))
   unfolding realAt
   crystal-stand true = (refl, refl)
@@ -122,7 +127,7 @@ module _ (l : List ℕ) where
   ssbond-stand true = (refl, refl)
   ssbond-stand false = (refl, refl)
 
-  pub reals-stand : (k : Kind) → Stand l (tableOf k (partial k l)) (realsOf (itemOf k l))
+  pub reals-stand : (k : Kind) → Stand l (fieldsBy k l) (realsOf (itemOf k g))
   unfolding realAt factorAt
   reals-stand Empty = (refl, refl)
   reals-stand Header = (refl, refl)

@@ -18,17 +18,18 @@ use mathlib.Core.List.{List, [], _∷_}
 use native.Mathlib.Omega.{arith}
 use lib.ListN.{length, take}
 use lib.Dec.{ltb}
-use Rattle.number.proofs.Laws.Choice.{clash}
-use Rattle.lexitem.specs.Faults.{noFaults, listed}
+use Rattle.number.proofs.Laws.Choice.{clash, and-left, and-right}
+use Rattle.line.specs.Faults.{noFaults, listed}
 use Rattle.lexitem.specs.declared.answer.Outcome.the-variants.{Accepted, Refused}
 use Rattle.lexitem.specs.declared.answer.Refusal.{Refusal}
 use Rattle.lexitem.specs.declared.item.LexItem.{LexItem}
-use Rattle.kind.specs.Kind.{bytes, same, kindBy, names, shortNames, keptByAtoms, keptOf, kindOf}
+use Rattle.kind.specs.Kind.{Named, same, namesBy, shortNames, kindBy, kindOf}
+use Rattle.kind.specs.Name.{keptByAtoms}
 use Rattle.kind.specs.declared.Kind.{Kind}
-use Rattle.kind.specs.declared.Kind.the-variants.{Empty, Header, Remark, Ter, End}
-use Rattle.lexer.specs.Item.{itemOf}
+use Rattle.kind.specs.declared.Kind.the-variants.{Empty, Header, Remark}
+use Rattle.lexitem.specs.Describe.{itemOf}
 use Rattle.lexer.specs.Lexed.{refused, accepted, firstOf, lexed}
-use Rattle.lexer.specs.Refusals.{Input, Row, kind, faults, rows}
+use Rattle.lexer.specs.Refusals.{Input, Test, kind, given, faults, tests}
 use Rattle.promises.specs.Refusing.{Rule, Least, Silent, First, Passed, rules, tableRule, lengthRule, byteRule, headerRule, remarkRule, leastRule, faultRule}
 use Rattle.promises.proofs.Laws.Agreeing.{AllAgree, rules-agree}
 
@@ -37,7 +38,7 @@ not-both : {x : LexItem} {r : Refusal} → Refused r ≡ Accepted x → ⊥
 not-both e = let z : _≡_ {A = ℕ} 0 1 = cc in omega arith
 
 module _ (i : Input) where
-  first-refused : (xs : List Row) (rs : List Rule) → AllAgree xs rs → (r : Refusal)
+  first-refused : (xs : List Test) (rs : List Rule) → AllAgree xs rs → (r : Refusal)
       → (firstOf i xs (accepted i) .outcome ≡ Refused r) ↔ First rs r
   first-refused [] [] a r = (λ e. absurd (not-both (sym e)), λ h. absurd h)
   first-refused [] (rule ∷ rs) a r = absurd a
@@ -55,24 +56,24 @@ module _ (i : Input) where
         ⊎-elim (λ p. absurd (clash (a .0 .1 r p .0) e)) (λ p. ih .1 (p .1)),
       )
 
-  first-accepted : (xs : List Row) (rs : List Rule) → AllAgree xs rs → (y : LexItem)
-      → (firstOf i xs (accepted i) .outcome ≡ Accepted y) ↔ (Passed rs × (y ≡ itemOf (kind i) (i .line)))
+  first-accepted : (xs : List Test) (rs : List Rule) → AllAgree xs rs → (y : LexItem)
+      → (firstOf i xs (accepted i) .outcome ≡ Accepted y) ↔ (Passed rs × (y ≡ itemOf (kind i) (given i)))
   first-accepted [] [] a y = (λ e. (tt, cc), λ h. ap Accepted (sym (h .1)))
   first-accepted [] (rule ∷ rs) a y = absurd a
   first-accepted (x ∷ xs) [] a y = absurd a
   first-accepted (x ∷ xs) (rule ∷ rs) a y = go (x .holds) refl (first-accepted xs rs (a .1) y)
     where
       go : (b : Bool) → x .holds ≡ b
-          → ((firstOf i xs (accepted i) .outcome ≡ Accepted y) ↔ (Passed rs × (y ≡ itemOf (kind i) (i .line))))
+          → ((firstOf i xs (accepted i) .outcome ≡ Accepted y) ↔ (Passed rs × (y ≡ itemOf (kind i) (given i))))
           → (cond b (refused i (x .gives)) (firstOf i xs (accepted i)) .outcome ≡ Accepted y)
-          ↔ ((Silent rule × Passed rs) × (y ≡ itemOf (kind i) (i .line)))
+          ↔ ((Silent rule × Passed rs) × (y ≡ itemOf (kind i) (given i)))
       go true e ih = (λ h. absurd (not-both h), λ h. absurd (h .0 .0 (x .gives) (a .0 .0 e)))
       go false e ih = (
         λ h. let p = ih .0 h in ((λ s q. clash (a .0 .1 s q .0) e, p .0), p .1),
         λ h. ih .1 (h .0 .1, h .1),
       )
 
-  first-faults : (xs : List Row) (r : Refusal) → firstOf i xs (accepted i) .outcome ≡ Refused r → firstOf i xs (accepted i) .faults ≡ noFaults
+  first-faults : (xs : List Test) (r : Refusal) → firstOf i xs (accepted i) .outcome ≡ Refused r → firstOf i xs (accepted i) .faults ≡ noFaults
   first-faults [] r e = cc
   first-faults (x ∷ xs) r e = go (x .holds) (first-faults xs r) e
     where
@@ -82,7 +83,7 @@ module _ (i : Input) where
       go true ih e = refl
       go false ih e = ih e
 
-  first-line : (xs : List Row) → firstOf i xs (accepted i) .line ≡ i .number
+  first-line : (xs : List Test) → firstOf i xs (accepted i) .line ≡ i .number
   first-line [] = refl
   first-line (x ∷ xs) = go (x .holds) (first-line xs)
     where
@@ -102,11 +103,11 @@ under-rule rule s t r e = (⊎-elim (λ h. inl h) (λ p. inr (p .0, e .0 (p .1))
 module _ (i : Input) where
   pub refused-when : (r : Refusal) → (lexed i .outcome ≡ Refused r) ↔ First (rules i) r
   unfolding lexed
-  refused-when r = first-refused i (rows i) (rules i) (rules-agree i) r
+  refused-when r = first-refused i (tests i) (rules i) (rules-agree i) r
 
-  pub accepted-exactly : (x : LexItem) → (lexed i .outcome ≡ Accepted x) ↔ (Passed (rules i) × (x ≡ itemOf (kind i) (i .line)))
+  pub accepted-exactly : (x : LexItem) → (lexed i .outcome ≡ Accepted x) ↔ (Passed (rules i) × (x ≡ itemOf (kind i) (given i)))
   unfolding lexed
-  accepted-exactly x = first-accepted i (rows i) (rules i) (rules-agree i) x
+  accepted-exactly x = first-accepted i (tests i) (rules i) (rules-agree i) x
 
   pub refused-once : (r s : Refusal) → First (rules i) r → First (rules i) s → r ≡ s
   refused-once r s p q =
@@ -116,7 +117,7 @@ module _ (i : Input) where
 
   pub refusal-empty : (r : Refusal) → lexed i .outcome ≡ Refused r → lexed i .faults ≡ noFaults
   unfolding lexed
-  refusal-empty r e = first-faults i (rows i) r e
+  refusal-empty r e = first-faults i (tests i) r e
 
   pub refusal-unlisted : (r : Refusal) → lexed i .outcome ≡ Refused r → listed (lexed i .faults) ≡ []
   unfolding listed noFaults
@@ -124,26 +125,23 @@ module _ (i : Input) where
 
   pub line-through : lexed i .line ≡ i .number
   unfolding lexed
-  line-through = first-line i (rows i)
+  line-through = first-line i (tests i)
 
 -- ---- atoms only
--- a choice of two kinds that are kept
+-- the kinds of names that are all kept
+abbrev allKept : List Named → Bool
+allKept [] = true
+allKept (n ∷ ns) = keptByAtoms (n .kind) && allKept ns
+
 either-kept : (b : Bool) (j k : Kind) → keptByAtoms j ≡ true → keptByAtoms k ≡ true → keptByAtoms (cond b j k) ≡ true
 either-kept true j k p q = p
 either-kept false j k p q = q
 
-short-kept : (t : List ℕ) → keptByAtoms (kindBy t shortNames) ≡ true
-short-kept t =
-    either-kept (same t (bytes "TER")) Ter (cond (same t (bytes "END")) End Empty) refl
-    (either-kept (same t (bytes "END")) End Empty refl refl)
-
-kept-only : (k : Kind) → keptByAtoms (keptOf true k) ≡ true
-unfolding keptOf
-kept-only k = go (keptByAtoms k) refl
-  where
-    go : (b : Bool) → keptByAtoms k ≡ b → keptByAtoms (cond (true && not b) Empty k) ≡ true
-    go true e = e
-    go false e = refl
+names-kept : (ns : List Named) → allKept ns ≡ true → (t : List ℕ) → keptByAtoms (kindBy t ns) ≡ true
+names-kept [] e t = refl
+names-kept (n ∷ ns) e t =
+    either-kept (same t (n .name)) (n .kind) (kindBy t ns) (and-left (keptByAtoms (n .kind)) (allKept ns) e)
+    (names-kept ns (and-right (keptByAtoms (n .kind)) (allKept ns) e) t)
 
 least-skipped : {k : Kind} {n : ℕ} → Least k n → keptByAtoms k ≡ false
 least-skipped Least.cryst1 = refl
@@ -156,11 +154,11 @@ module _ (i : Input) (only : i .options .atoms ≡ true) where
   unfolding kindOf
   atoms-kept =
       let l = i .line in
-      let long = keptOf true (kindBy (take 6 l) names) in
-      let short = kindBy (take 3 l) shortNames in
+      let long = names-kept (namesBy true) refl (take 6 l) in
+      let short = names-kept shortNames refl (take 3 l) in
       rw only
-      (either-kept (ltb 6 (length l)) long (cond (ltb 2 (length l)) short Empty) (kept-only (kindBy (take 6 l) names))
-      (either-kept (ltb 2 (length l)) short Empty (short-kept (take 3 l)) refl))
+      (either-kept (ltb 6 (length l)) (kindBy (take 6 l) (namesBy true)) (cond (ltb 2 (length l)) (kindBy (take 3 l) shortNames) Empty) long
+      (either-kept (ltb 2 (length l)) (kindBy (take 3 l) shortNames) Empty short refl))
 
   pub atoms-skip : (k : Kind) → keptByAtoms k ≡ false → kind i ≢ k
   atoms-skip k e h = clash atoms-kept (ap keptByAtoms h ∙ e)

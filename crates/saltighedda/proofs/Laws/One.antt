@@ -13,7 +13,7 @@ use borrow.Author.Tests.{le-leb, ltb-true}
 use lib.ListN.{length}
 use lib.Dec.{leb, ltb}
 use Rattle.lexer.specs.Lexed.{lexed, refused, accepted, firstOf}
-use Rattle.lexer.specs.Refusals.{Input, Row, rows}
+use Rattle.lexer.specs.Refusals.{Input, Test, tests}
 use Rattle.lexitem.specs.declared.answer.Outcome.{Outcome}
 use Rattle.lexitem.specs.declared.answer.Outcome.the-variants as outcome
 use Rattle.lexitem.specs.declared.answer.Refusal.{Refusal}
@@ -37,7 +37,7 @@ abbrev numberIn : Outcome → ℕ
 numberIn (outcome.Accepted x) = 1
 numberIn (outcome.Refused r) = r .number
 
-abbrev numbered : List Row → Bool
+abbrev numbered : List Test → Bool
 numbered [] = true
 numbered (r ∷ t) = ltb 0 (r .gives .number) && numbered t
 
@@ -45,7 +45,7 @@ both : (a b : Bool) → a && b ≡ true → (a ≡ true) × (b ≡ true)
 both true b e = (refl, e)
 both false b e = (e, cc)
 
-first-number : (i : Input) (rs : List Row) → numbered rs ≡ true → 0 < numberIn (firstOf i rs (accepted i) .outcome)
+first-number : (i : Input) (rs : List Test) → numbered rs ≡ true → 0 < numberIn (firstOf i rs (accepted i) .outcome)
 first-number i [] e = omega arith
 first-number i (r ∷ t) e =
     let h = both (ltb 0 (r .gives .number)) (numbered t) e in
@@ -58,7 +58,7 @@ first-number i (r ∷ t) e =
 
 number-some : (i : Input) → 0 < numberIn (lexed i .outcome)
 unfolding lexed
-number-some i = first-number i (rows i) refl
+number-some i = first-number i (tests i) refl
 
 -- ---- by what is measured
 abbrev Apart : Listed → Type 0

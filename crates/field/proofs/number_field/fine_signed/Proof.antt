@@ -7,7 +7,7 @@ use mir.Facts.{toZ-ofZ}
 use Rattle.field.specs.Number.{numberFaults, signedAt}
 use Rattle.field.proofs.Laws.Fields.{part-short, signed-none}
 use Rattle.number.specs.Whole.{signedOf}
-use Rattle.lexitem.specs.Columns.{partOf}
+use Rattle.line.specs.Columns.{partOf}
 use Rattle.number.proofs.Laws.Width.{signed-fits}
 use borrow.Author.Needs.{needs}
 use Rattle.field.proofs.number_field.fine_signed.Statement.{statement}

@@ -10,7 +10,7 @@ use denote.Ref.{now}
 use Rattle.lexer.specs.Steps.{remarkRefusal}
 use Rattle.number.specs.Trim.{kept}
 use Rattle.number.proofs.Laws.Trim.{kept-le}
-use Rattle.lexer.proofs.Laws.Rows.{no-third}
+use Rattle.lexer.proofs.Laws.Tests.{no-third}
 use borrow.Author.Needs.{needs}
 use Rattle.lexer.proofs.bound.remark_refusal.Statement.{statement}
 use Rattle.lexer.proofs.bound.remark_refusal.Tie as tie

@@ -1,0 +1,2 @@
+-- What ATOM, HETATM and ANISOU hold.
+pub mod Atom

@@ -1,0 +1,4 @@
+// ATOM, HETATM and ANISOU: the records with their columns, their readers and their rows.
+pub mod read;
+pub mod record;
+pub mod rows;

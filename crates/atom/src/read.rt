@@ -1,0 +1,273 @@
+// ATOM, HETATM and ANISOU. The coordinates' faults come before those of what the kinds share, as lexer.rs reads them first.
+// Nearly every line of a file is an atom without a fault, so an atom is read without a list of faults first. Only if a field
+// isn't fine is it read again, with the list going through.
+ghost use mathlib.Core.Path.{_≡_};
+ghost use Rattle.field.specs.Table.{lineFine, lineNoted};
+ghost use Rattle.line.specs.Given.{alone};
+ghost use mathlib.Core.Bool.{false};
+ghost use Rattle.atom.specs.Atom as specs;
+use crate::record::Anisou;
+use crate::record::Atom;
+use crate::record::Basics;
+use crate::record::Factors;
+use crate::record::Position;
+use field::charge::charge;
+use field::charge::fine_charge;
+use field::number_field::factor;
+use field::number_field::fine_real;
+use field::number_field::fine_signed;
+use field::number_field::fine_unsigned;
+use field::number_field::real;
+use field::number_field::signed;
+use field::number_field::unsigned;
+use field::text_field::character;
+use field::text_field::fine_character;
+use field::text_field::fine_optional;
+use field::text_field::fine_text;
+use field::text_field::optional;
+use field::text_field::text;
+use line::fault::Faults;
+use line::text::Character;
+use line::text::Text;
+
+// What was read, and whether all of its fields are fine.
+pub struct FineBasics {
+    pub value: Basics,
+    pub fine: bool,
+}
+
+pub struct FinePosition {
+    pub value: Position,
+    pub fine: bool,
+}
+
+pub struct FineAtom {
+    pub value: Atom,
+    pub fine: bool,
+}
+
+// What was read, beside the list with the faults of its fields.
+pub struct GotBasics {
+    pub value: Basics,
+    pub faults: Faults,
+}
+
+pub struct GotAtom {
+    pub value: Atom,
+    pub faults: Faults,
+}
+
+pub struct GotAnisou {
+    pub value: Anisou,
+    pub faults: Faults,
+}
+
+pub struct GotPosition {
+    pub value: Position,
+    pub faults: Faults,
+}
+
+pub struct GotFactors {
+    pub value: Factors,
+    pub faults: Faults,
+}
+
+// What ATOM, HETATM and ANISOU share.
+fn lex_atom_basics(line: &[u8], faults: Faults) -> GotBasics
+    ensures { λ r. ⌜ r ≡ record { value = specs.basicsOf (now (line .entry)); faults = lineNoted (now (line .entry)) specs.basicsTable faults } ⌝ }
+{
+    let serial = unsigned(line, Basics::SERIAL, faults);
+    let name = text(line, Basics::NAME, serial.faults);
+    let alternate = optional(line, Basics::ALTERNATE, name.faults);
+    let residue = text(line, Basics::RESIDUE, alternate.faults);
+    let chain = character(line, Basics::CHAIN, residue.faults);
+    let number = signed(line, Basics::NUMBER, chain.faults);
+    let insertion = optional(line, Basics::INSERTION, number.faults);
+    let segment = text(line, Basics::SEGMENT, insertion.faults);
+    let element = text(line, Basics::ELEMENT, segment.faults);
+    let charge = charge(line, Basics::CHARGE, element.faults);
+    let location = alternate.value;
+    let of = chain.value;
+    let inserted = insertion.value;
+    let value = Basics::new(
+        serial.value,
+        name.value,
+        location,
+        residue.value,
+        of,
+        number.value,
+        inserted,
+        segment.value,
+        element.value,
+        charge.value,
+    );
+    let faults = charge.faults;
+    GotBasics { value, faults }
+}
+
+fn lex_position(line: &[u8], faults: Faults) -> GotPosition
+    ensures { λ r. ⌜ r ≡ record { value = specs.positionOf (now (line .entry)); faults = lineNoted (now (line .entry)) specs.positionTable faults } ⌝ }
+{
+    let x = real(line, Position::X, 0.0, faults);
+    let y = real(line, Position::Y, 0.0, x.faults);
+    let z = real(line, Position::Z, 0.0, y.faults);
+    let value = Position::new(x.value, y.value, z.value);
+    let faults = z.faults;
+    GotPosition { value, faults }
+}
+
+// An atom, with the list going through.
+fn lex_atom_noted(line: &[u8], hetero: bool) -> GotAtom
+    ensures { λ r. ⌜ r ≡ specs.gotAtom hetero (alone (now (line .entry))) ⌝ }
+{
+    let position = lex_position(line, Faults::none());
+    let occupancy = real(
+        line,
+        Atom::OCCUPANCY,
+        Atom::OCCUPANCY_DEFAULT,
+        position.faults,
+    );
+    let bfactor = real(line, Atom::BFACTOR, 0.0, occupancy.faults);
+    let basics = lex_atom_basics(line, bfactor.faults);
+    let value = Atom::new(
+        hetero,
+        basics.value,
+        position.value,
+        occupancy.value,
+        bfactor.value,
+    );
+    let faults = basics.faults;
+    GotAtom { value, faults }
+}
+
+// Nothing that was read.
+fn no_basics() -> FineBasics
+    ensures { λ r. ⌜ r .fine ≡ false ⌝ }
+{
+    let empty = Text::new(0, 0);
+    let absent = Character::Absent;
+    FineBasics {
+        value: Basics::new(0, empty, absent, empty, absent, 0, absent, empty, empty, 0),
+        fine: false,
+    }
+}
+
+// What the kinds share, of a line that reaches past the element: the one test spares each field its own.
+fn quick_basics(line: &[u8]) -> FineBasics
+    ensures { λ r. ⌜ specs.SaysBasics (now (line .entry)) r ⌝ }
+{
+    if line.len() < Basics::ELEMENT.end as usize {
+        return no_basics();
+    }
+    let serial = fine_unsigned(line, Basics::SERIAL);
+    let name = fine_text(line, Basics::NAME);
+    let alternate = fine_optional(line, Basics::ALTERNATE);
+    let residue = fine_text(line, Basics::RESIDUE);
+    let chain = fine_character(line, Basics::CHAIN);
+    let number = fine_signed(line, Basics::NUMBER);
+    let insertion = fine_optional(line, Basics::INSERTION);
+    let segment = fine_text(line, Basics::SEGMENT);
+    let element = fine_text(line, Basics::ELEMENT);
+    let charge = fine_charge(line, Basics::CHARGE);
+    let location = alternate.value;
+    let of = chain.value;
+    let inserted = insertion.value;
+    let value = Basics::new(
+        serial.value,
+        name.value,
+        location,
+        residue.value,
+        of,
+        number.value,
+        inserted,
+        segment.value,
+        element.value,
+        charge.value,
+    );
+    let last = segment.fine & (element.fine & charge.fine);
+    let middle = chain.fine & (number.fine & (insertion.fine & last));
+    FineBasics {
+        value,
+        fine: serial.fine & (name.fine & (alternate.fine & (residue.fine & middle))),
+    }
+}
+
+fn quick_position(line: &[u8]) -> FinePosition
+    ensures { λ r. ⌜ r ≡ record { value = specs.positionOf (now (line .entry)); fine = lineFine (now (line .entry)) specs.positionTable } ⌝ }
+{
+    let x = fine_real(line, Position::X, 0.0);
+    let y = fine_real(line, Position::Y, 0.0);
+    let z = fine_real(line, Position::Z, 0.0);
+    FinePosition {
+        value: Position::new(x.value, y.value, z.value),
+        fine: x.fine & (y.fine & z.fine),
+    }
+}
+
+fn quick_atom(line: &[u8], hetero: bool) -> FineAtom
+    ensures { λ r. ⌜ specs.SaysAtom hetero (now (line .entry)) r ⌝ }
+{
+    let position = quick_position(line);
+    let occupancy = fine_real(line, Atom::OCCUPANCY, Atom::OCCUPANCY_DEFAULT);
+    let bfactor = fine_real(line, Atom::BFACTOR, 0.0);
+    let basics = quick_basics(line);
+    FineAtom {
+        value: Atom::new(
+            hetero,
+            basics.value,
+            position.value,
+            occupancy.value,
+            bfactor.value,
+        ),
+        fine: position.fine & (occupancy.fine & (bfactor.fine & basics.fine)),
+    }
+}
+
+// A line that ends before the element has faults, and isn't read twice.
+pub fn lex_atom(line: &[u8], hetero: bool) -> GotAtom
+    ensures { λ r. ⌜ r ≡ specs.gotAtom hetero (alone (now (line .entry))) ⌝ }
+{
+    if line.len() < Basics::ELEMENT.end as usize {
+        return lex_atom_noted(line, hetero);
+    }
+    let quick = quick_atom(line, hetero);
+    if quick.fine {
+        let value = quick.value;
+        return GotAtom {
+            value,
+            faults: Faults::none(),
+        };
+    }
+    lex_atom_noted(line, hetero)
+}
+
+fn lex_factors(line: &[u8], faults: Faults) -> GotFactors
+    ensures { λ r. ⌜ r ≡ record { value = specs.factorsOf (now (line .entry)); faults = lineNoted (now (line .entry)) specs.factorsTable faults } ⌝ }
+{
+    let u11 = factor(line, Factors::U11, faults);
+    let u22 = factor(line, Factors::U22, u11.faults);
+    let u33 = factor(line, Factors::U33, u22.faults);
+    let u12 = factor(line, Factors::U12, u33.faults);
+    let u13 = factor(line, Factors::U13, u12.faults);
+    let u23 = factor(line, Factors::U23, u13.faults);
+    let value = Factors::new(
+        u11.value,
+        u22.value,
+        u33.value,
+        u12.value,
+        u13.value,
+        u23.value,
+    );
+    let faults = u23.faults;
+    GotFactors { value, faults }
+}
+
+pub fn lex_anisou(line: &[u8]) -> GotAnisou
+    ensures { λ r. ⌜ r ≡ specs.gotAnisou (alone (now (line .entry))) ⌝ }
+{
+    let factors = lex_factors(line, Faults::none());
+    let basics = lex_atom_basics(line, factors.faults);
+    let value = Anisou::new(basics.value, factors.value);
+    let faults = basics.faults;
+    GotAnisou { value, faults }
+}

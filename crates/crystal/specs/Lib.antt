@@ -1,0 +1,2 @@
+-- What CRYST1 holds.
+pub mod Crystal

@@ -1,0 +1,2 @@
+-- The wwPDB format.
+pub mod Format

@@ -1,0 +1,2 @@
+-- What HEADER holds.
+pub mod Header

@@ -1,0 +1,32 @@
+-- `line::fault::Faults::note` meets its contract: the tests are those of `noted`.
+-- Assumes nothing.
+use borrow.Author.Tests.{lt-ltb, le-ltb, eq-eqb, ne-eqb}
+use Rattle.line.specs.Faults.{noted}
+use borrow.Author.Needs.{needs}
+use Rattle.line.proofs.fault.Faults.note.Statement.{statement}
+use Rattle.line.proofs.fault.Faults.note.Tie as tie
+
+mul-fault : tie.Need-mul-fault
+mul-fault c = search needs
+
+element-set-from-fault : tie.Need-element-set-from-fault
+element-set-from-fault c = search needs
+
+add-faults : tie.Need-add-faults
+add-faults c = search needs
+
+returns : tie.Need-returns
+unfolding noted
+returns c = simp (lt-ltb _ _ (c .if1 .taken))
+
+returns-2 : tie.Need-returns-2
+unfolding noted
+returns-2 c = simp (le-ltb _ _ (c .before .if1 .left), eq-eqb _ _ (c .if2 .taken))
+
+returns-3 : tie.Need-returns-3
+unfolding noted
+returns-3 c = simp (le-ltb _ _ (c .before .if1 .left), ne-eqb _ _ (c .if2 .left))
+
+pub note-spec : {M : Type 1} → statement M
+note-spec =
+    tie.close (tie.spec mul-fault element-set-from-fault add-faults returns returns-2 returns-3)

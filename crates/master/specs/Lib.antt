@@ -1,0 +1,2 @@
+-- What MASTER holds.
+pub mod Master

@@ -1,0 +1,2 @@
+-- What MODEL holds.
+pub mod Model

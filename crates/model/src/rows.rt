@@ -1,0 +1,33 @@
+// The rows of MODEL.
+ghost use mathlib.Core.Path.{_≡_};
+ghost use Rattle.row.specs.Rows.{rowsOf};
+ghost use Rattle.model.specs.Model.{modelFields};
+use crate::record::Model;
+use row::Row;
+use row::Rows;
+use row::Value;
+
+pub fn model_rows(model: Model) -> Rows
+    ensures { λ r. ⌜ r ≡ rowsOf (modelFields model) ⌝ }
+{
+    let none = Row::NONE;
+    let list = [
+        Row(Model::NUMBER, Value::Unsigned(model.number)),
+        none,
+        none,
+        none,
+        none,
+        none,
+        none,
+        none,
+        none,
+        none,
+        none,
+        none,
+        none,
+        none,
+        none,
+        none,
+    ];
+    Rows { list }
+}

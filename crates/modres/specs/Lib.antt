@@ -1,0 +1,2 @@
+-- What MODRES holds.
+pub mod Modres

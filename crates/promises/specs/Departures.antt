@@ -1,0 +1,133 @@
+-- "Each place where the two disagree goes into docs/DIFFERENCES.md." The lexer's tables as fields of the format's type, and the stated departures
+-- of the one from the other.
+--     fieldsOfTable           the fields of a table of ours
+--     without                 what one list has and the other lacks
+--     compared, departures    a kind's two differences, as computed and as stated
+-- Departures that aren't about columns or sorts stand in docs/DIFFERENCES.md only: an unsigned serial, a blank seqNum that is a fault, an
+-- `ENDMDL` of six bytes that is END, defaults, short lines, kinds that the lexer makes EMPTY.
+use Prim.Native.Nat.{ℕ, suc, _+_}
+use mathlib.Core.Bool.{Bool, true, false, cond, _&&_, _||_}
+use mathlib.Core.List.{List, [], _∷_, _++_}
+use lib.Dec.{eqb}
+use Rattle.line.specs.Columns.{_⋯_, only}
+use Rattle.field.specs.Table.{Entry}
+use Rattle.format.specs.Format.{Sort, FormatField, formatOf}
+use Rattle.format.specs.Format.Sort.{integer, real, text, character}
+use Rattle.format.specs.Format.FormatField.{_at_, _from_}
+use Rattle.lexitem.specs.Describe.{tableOf}
+use Rattle.kind.specs.declared.Kind.{Kind}
+use Rattle.kind.specs.declared.Kind.the-variants.{Empty, Header, Remark, Atom, Hetatm, Anisou, Cryst1, Scale, Origx, Mtrix, Model, Master, Dbref, Dbref1, Dbref2, Seqres, Seqadv, Modres, Ssbond, Endmdl, Ter, End}
+
+-- ---- our tables as such fields
+
+-- so many triples, with a column between
+abbrev triplesFrom : ℕ → ℕ → List FormatField
+triplesFrom ℕ.zero start = []
+triplesFrom (suc k) start = text at start ⋯ (start + 3) ∷ triplesFrom k (start + 4)
+
+-- U and I are both the format's Integer; a look into the remark table and a number that isn't written are no fields
+abbrev fieldsOf : Entry → List FormatField
+fieldsOf (Entry.u columns) = integer at columns ∷ []
+fieldsOf (Entry.i columns) = integer at columns ∷ []
+fieldsOf (Entry.r columns default) = real at columns ∷ []
+fieldsOf (Entry.t columns) = text at columns ∷ []
+fieldsOf (Entry.c columns) = character at columns ∷ []
+fieldsOf (Entry.c? columns) = character at columns ∷ []
+fieldsOf (Entry.a columns) = integer at columns ∷ []
+fieldsOf (Entry.u-rest start) = integer from start ∷ []
+fieldsOf (Entry.x columns) = text at columns ∷ []
+fieldsOf (Entry.t-within columns) = text at columns ∷ []
+fieldsOf (Entry.t-rest start) = text from start ∷ []
+fieldsOf (Entry.t-end start) = text from start ∷ []
+fieldsOf (Entry.charge columns) = text at columns ∷ []
+fieldsOf (Entry.known columns) = []
+fieldsOf (Entry.given column) = integer at only column ∷ []
+fieldsOf (Entry.unwritten column) = []
+fieldsOf (Entry.triples start) = triplesFrom 13 start
+
+abbrev pub fieldsOfTable : List Entry → List FormatField
+fieldsOfTable [] = []
+fieldsOfTable (e ∷ rest) = fieldsOf e ++ fieldsOfTable rest
+
+-- ---- the differences
+
+abbrev sortNumber : Sort → ℕ
+sortNumber integer = 0
+sortNumber real = 1
+sortNumber text = 2
+sortNumber character = 3
+
+-- whether two fields are the same
+abbrev same : FormatField → FormatField → Bool
+same (s at a) (r at b) = eqb (sortNumber s) (sortNumber r) && eqb (a .start) (b .start) && eqb (a .end) (b .end)
+same (s at a) (r from b) = false
+same (s from a) (r at b) = false
+same (s from a) (r from b) = eqb (sortNumber s) (sortNumber r) && eqb a b
+
+abbrev among : FormatField → List FormatField → Bool
+among f [] = false
+among f (g ∷ rest) = same f g || among f rest
+
+-- the fields of the first list that the second lacks, in their order
+abbrev pub without : List FormatField → List FormatField → List FormatField
+without [] others = []
+without (f ∷ rest) others = cond (among f others) (without rest others) (f ∷ without rest others)
+
+pub record Departures : Type 0 where
+  -- what our table has and the format's lacks, and the reverse
+  pub ours : List FormatField
+  pub theirs : List FormatField
+
+-- a kind's two differences; a kind with a part that only some lines have is taken with it
+abbrev pub compared : Kind → Departures
+compared k = record {
+  ours = without (fieldsOfTable (tableOf k true)) (formatOf k);
+  theirs = without (formatOf k) (fieldsOfTable (tableOf k true));
+}
+
+abbrev none : Departures
+none = record { ours = []; theirs = [] }
+
+-- the segment name of older versions
+abbrev segmentRead : Departures
+segmentRead = record { ours = text at 72 ⋯ 76 ∷ []; theirs = [] }
+
+-- the list that docs/DIFFERENCES.md has in words
+abbrev pub departures : Kind → Departures
+departures Empty = none
+departures Header = none
+-- the text goes to the line's end
+departures Remark = record { ours = text from 11 ∷ []; theirs = text at 11 ⋯ 79 ∷ [] }
+departures Atom = segmentRead
+departures Hetatm = segmentRead
+departures Anisou = segmentRead
+-- Z ends with the line
+departures Cryst1 = record { ours = integer from 66 ∷ []; theirs = integer at 66 ⋯ 70 ∷ [] }
+departures (Scale row) = none
+departures (Origx row) = none
+departures (Mtrix row) = none
+-- the serial takes all that follows the name
+departures Model = record { ours = integer from 6 ∷ []; theirs = integer at 10 ⋯ 14 ∷ [] }
+departures Master = none
+-- the chain is a text
+departures Dbref = record { ours = text at 12 ⋯ 13 ∷ []; theirs = character at 12 ⋯ 13 ∷ [] }
+-- the same, and the end's number begins a column late
+departures Dbref1 = record {
+  ours = text at 12 ⋯ 13 ∷ integer at 21 ⋯ 24 ∷ [];
+  theirs = character at 12 ⋯ 13 ∷ integer at 20 ⋯ 24 ∷ [];
+}
+departures Dbref2 = record { ours = text at 12 ⋯ 13 ∷ []; theirs = character at 12 ⋯ 13 ∷ [] }
+departures Seqres = none
+-- the chain is a text, and the comment goes to the line's end
+departures Seqadv = record { ours = text at 16 ⋯ 17 ∷ text from 49 ∷ []; theirs = character at 16 ⋯ 17 ∷ text at 49 ⋯ 70 ∷ [] }
+-- the comment goes to the line's end
+departures Modres = record { ours = text from 29 ∷ []; theirs = text at 29 ⋯ 70 ∷ [] }
+-- the serial isn't read
+departures Ssbond = record { ours = []; theirs = integer at 7 ⋯ 10 ∷ [] }
+departures Endmdl = none
+-- none is read
+departures Ter = record {
+  ours = [];
+  theirs = integer at 6 ⋯ 11 ∷ text at 17 ⋯ 20 ∷ character at 21 ⋯ 22 ∷ integer at 22 ⋯ 26 ∷ character at 26 ⋯ 27 ∷ [];
+}
+departures End = none

@@ -1,0 +1,2 @@
+-- What REMARK holds.
+pub mod Remark

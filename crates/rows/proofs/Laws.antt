@@ -1,2 +1,0 @@
--- The laws of the words in specs/.
-pub mod Name

@@ -1,3 +1,0 @@
--- The words that the contracts of this crate cite.
-pub mod Fields
-pub mod Name

@@ -1,0 +1,2 @@
+-- What SEQADV holds.
+pub mod Seqadv

@@ -1,0 +1,2 @@
+-- What SEQRES holds.
+pub mod Seqres

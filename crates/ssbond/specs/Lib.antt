@@ -1,0 +1,2 @@
+-- What SSBOND holds.
+pub mod Ssbond

@@ -1,0 +1,2 @@
+-- What SCALEn, ORIGXn and MTRIXn hold.
+pub mod Transformation

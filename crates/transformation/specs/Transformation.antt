@@ -1,0 +1,86 @@
+-- "SCALE, ORIGX: R 10..20 20..30 30..40 45..55. MTRIX: U 7..10, R as SCALE, given = (byte 59 is `1`), false under 60."
+use Prim.Native.Nat.{ℕ}
+use mathlib.Core.Bool.{Bool}
+use mathlib.Core.List.{List, [], _∷_, _++_}
+use lib.ListN.{getD}
+use lib.Dec.{eqb}
+use Rattle.field.specs.Number.{unsignedAt, realAt, zeroReal}
+use Rattle.field.specs.Table.{Entry, tableNoted}
+use Rattle.field.specs.Table.Entry.{u, r}
+use Rattle.line.specs.Columns.{_⋯_}
+use Rattle.line.specs.Faults.{noFaults}
+use Rattle.line.specs.Given.{Given}
+use Rattle.line.specs.declared.columns.Columns.{Columns}
+use Rattle.row.specs.Rows.{_is_}
+use Rattle.row.specs.declared.Row.{Row}
+use Rattle.row.specs.declared.Value.the-variants.{Unsigned, Real, Flag}
+use Rattle.transformation.specs.declared.record.Transformation.{Transformation}
+use Rattle.transformation.specs.declared.record.Scale.{Scale}
+use Rattle.transformation.specs.declared.record.OrigX.{OrigX}
+use Rattle.transformation.specs.declared.record.MtriX.{MtriX}
+use Rattle.transformation.specs.declared.read.GotScale.{GotScale}
+use Rattle.transformation.specs.declared.read.GotOrigX.{GotOrigX}
+use Rattle.transformation.specs.declared.read.GotMtriX.{GotMtriX}
+
+pub data Field : Type 0 where
+  serial a b c d : Field
+
+abbrev pub at : Field → Columns
+at serial = 7 ⋯ 10
+at a = 10 ⋯ 20
+at b = 20 ⋯ 30
+at c = 30 ⋯ 40
+at d = 45 ⋯ 55
+
+abbrev pub givenAt : ℕ
+givenAt = 59
+
+abbrev pub transformationTable : List Entry
+transformationTable = r (at a) zeroReal ∷ r (at b) zeroReal ∷ r (at c) zeroReal ∷ r (at d) zeroReal ∷ []
+
+abbrev pub mtrixTable : List Entry
+mtrixTable = u (at serial) ∷ transformationTable ++ Entry.given givenAt ∷ []
+
+abbrev pub transformationOf : List ℕ → Transformation
+transformationOf l = record {
+  a = realAt l (at a) zeroReal;
+  b = realAt l (at b) zeroReal;
+  c = realAt l (at c) zeroReal;
+  d = realAt l (at d) zeroReal;
+}
+
+abbrev pub scaleOf : ℕ → List ℕ → Scale
+scaleOf row l = record { row = row; values = transformationOf l }
+
+abbrev pub origxOf : ℕ → List ℕ → OrigX
+origxOf row l = record { row = row; values = transformationOf l }
+
+-- a byte past the line's end is no `1`
+abbrev pub givenOf : List ℕ → Bool
+givenOf l = eqb (getD l givenAt 0) 49
+
+abbrev pub mtrixOf : ℕ → List ℕ → MtriX
+mtrixOf row l = record { row = row; serial = unsignedAt l (at serial); values = transformationOf l; given = givenOf l }
+
+abbrev pub gotScale : ℕ → Given → GotScale
+gotScale row g = record { value = scaleOf row (g .line); faults = tableNoted g transformationTable noFaults }
+
+abbrev pub gotOrigX : ℕ → Given → GotOrigX
+gotOrigX row g = record { value = origxOf row (g .line); faults = tableNoted g transformationTable noFaults }
+
+abbrev pub gotMtriX : ℕ → Given → GotMtriX
+gotMtriX row g = record { value = mtrixOf row (g .line); faults = tableNoted g mtrixTable noFaults }
+
+abbrev pub transformationFields : Transformation → List Row
+transformationFields v =
+    at a .start is Real (v .a) ∷ at b .start is Real (v .b) ∷ at c .start is Real (v .c) ∷ at d .start is Real (v .d) ∷ []
+
+abbrev pub scaleFields : Scale → List Row
+scaleFields v = transformationFields (v .values)
+
+abbrev pub origxFields : OrigX → List Row
+origxFields v = transformationFields (v .values)
+
+abbrev pub mtrixFields : MtriX → List Row
+mtrixFields v =
+    at serial .start is Unsigned (v .serial) ∷ transformationFields (v .values) ++ givenAt is Flag (v .given) ∷ []

@@ -1,0 +1,4 @@
+// SCALEn, ORIGXn and MTRIXn: the records with their columns, their readers and their rows.
+pub mod read;
+pub mod record;
+pub mod rows;

@@ -1,0 +1,75 @@
+// The rows of SCALEn, ORIGXn and MTRIXn.
+ghost use mathlib.Core.Path.{_≡_};
+ghost use Rattle.row.specs.Rows.{rowsOf};
+ghost use Rattle.transformation.specs.Transformation.{transformationFields, scaleFields, origxFields, mtrixFields};
+use crate::record::MtriX;
+use crate::record::OrigX;
+use crate::record::Scale;
+use crate::record::Transformation;
+use row::Row;
+use row::Rows;
+use row::Value;
+
+// The four values of a row.
+fn transformation_rows(values: Transformation) -> Rows
+    ensures { λ r. ⌜ r ≡ rowsOf (transformationFields values) ⌝ }
+{
+    let none = Row::NONE;
+    let list = [
+        Row(Transformation::A.start, Value::Real(values.a)),
+        Row(Transformation::B.start, Value::Real(values.b)),
+        Row(Transformation::C.start, Value::Real(values.c)),
+        Row(Transformation::D.start, Value::Real(values.d)),
+        none,
+        none,
+        none,
+        none,
+        none,
+        none,
+        none,
+        none,
+        none,
+        none,
+        none,
+        none,
+    ];
+    Rows { list }
+}
+
+pub fn scale_rows(scale: Scale) -> Rows
+    ensures { λ r. ⌜ r ≡ rowsOf (scaleFields scale) ⌝ }
+{
+    transformation_rows(scale.values)
+}
+
+pub fn origx_rows(origx: OrigX) -> Rows
+    ensures { λ r. ⌜ r ≡ rowsOf (origxFields origx) ⌝ }
+{
+    transformation_rows(origx.values)
+}
+
+pub fn mtrix_rows(mtrix: MtriX) -> Rows
+    ensures { λ r. ⌜ r ≡ rowsOf (mtrixFields mtrix) ⌝ }
+{
+    let values = mtrix.values;
+    let none = Row::NONE;
+    let list = [
+        Row(MtriX::SERIAL.start, Value::Unsigned(mtrix.serial)),
+        Row(Transformation::A.start, Value::Real(values.a)),
+        Row(Transformation::B.start, Value::Real(values.b)),
+        Row(Transformation::C.start, Value::Real(values.c)),
+        Row(Transformation::D.start, Value::Real(values.d)),
+        Row(MtriX::GIVEN as u16, Value::Flag(mtrix.given)),
+        none,
+        none,
+        none,
+        none,
+        none,
+        none,
+        none,
+        none,
+        none,
+        none,
+    ];
+    Rows { list }
+}
