@@ -56,6 +56,7 @@ format:
 contracts:
 	@tests/contracts.sh
 	@tests/promises.sh
+	@tests/believed.sh
 	@tests/house.sh
 
 hosts: $(program) $(library)

@@ -1,9 +1,10 @@
 /*
  * saltighedda.h: a line of a PDB file, listed, with what could not be read.
  *
- * Every entry takes any bytes and any numbers; nothing has to be checked beforehand. A buffer is a pointer and the number of
- * its bytes; the pointer of a buffer of 0 bytes may be NULL. The buffers must not overlap. No entry keeps a pointer, allocates
- * memory or has a state, so calls from several threads at once are fine if each lends an output of its own.
+ * Every entry takes any bytes and any numbers; nothing has to be checked beforehand. A host has one duty: a buffer is a pointer
+ * and the number of bytes that are there, the output's bytes are in no other buffer of the call, and nobody else writes to them
+ * meanwhile. The pointer of a buffer of 0 bytes may be NULL. No entry keeps a pointer, allocates memory or has a state, so calls
+ * from several threads at once are fine if each lends an output of its own.
  *
  * A listing is rows of bytes below 127, each ended by '\n':
  *
@@ -17,8 +18,9 @@
  *     ..
  *
  * A field that a fault of kind 1 to 4 names has its default, and was not read; 5 says only that the number isn't in the table. A
- * real that no fault names was read. Apart from texts that end with the line, three fields may be unwritten without a fault: Z is 1
- * in a CRYST1 of 66 bytes or less, an atom's charge is 0 under 80 bytes or where it is two blanks, and MTRIX's f59 is 0 under 60.
+ * real that no fault names was read. Of the other numbers three may be unwritten without a fault: Z is 1 in a CRYST1 of 66 bytes or
+ * less, an atom's charge is 0 under 80 bytes or where it is two blanks, and MTRIX's f59 is 0 under 60. A text without a fault may
+ * be blank, and one that ends with the line may lie behind its end.
  * The kinds of faults:
  *
  *     1  the line ends before the field's last column

@@ -1,5 +1,6 @@
 #!/bin/bash
-# Every file that docs/PROMISES.md cites is there, and has the names that are cited of it. The status is 1 if one isn't.
+# Every file that docs/PROMISES.md cites is there, and has the names that are cited of it; and it cites every must-fail edit. The status is 1 if
+# one isn't.
 set -eu
 cd "$(dirname "${BASH_SOURCE[0]}")/.."
 
@@ -45,5 +46,11 @@ while IFS=$'\t' read -r file name; do
         wrong=1
     fi
 done < <(cited)
+for edit in crates/*/must-fail/*.edit; do
+    if ! grep -qF -- "$(basename "$edit")" docs/PROMISES.md; then
+        echo "promises: nothing cites $edit" >&2
+        wrong=1
+    fi
+done
 [ $wrong = 0 ] || exit 1
 echo "promises: $count files and names are where docs/PROMISES.md says"

@@ -1,9 +1,11 @@
 //! Holds the port's answer to what it has to be: the listing's bytes, the count of bytes written,
-//! the refusal's three numbers, and every byte of the lent output and behind it.
+//! the refusal's three numbers, the sorts that its faults 2 name, and every byte of the lent
+//! output and behind it.
 
 use crate::generate::Input;
 use crate::oracle::{Oracle, Refusal, Verdict};
 use crate::port::{Answer, Port, BLOCK, OUTPUT, UNWRITTEN};
+use crate::sorts::Sorts;
 use crate::tables::Tables;
 use std::io;
 
@@ -12,6 +14,7 @@ pub struct Seen {
     /// The first thing that isn't as it should be.
     pub wrong: Option<&'static str>,
     pub refusal: Refusal,
+    pub sorts: Sorts,
 }
 
 /// What should come of one input, and what came of it.
@@ -106,7 +109,8 @@ pub fn seen(verdict: &Verdict, listing: &[u8], answer: &Answer) -> Seen {
         _ if output[wanted.len()..] != [UNWRITTEN; OUTPUT][wanted.len()..] => {
             Some("the output behind the listing, or that of a refused line")
         }
+        _ if answer.sorts != verdict.sorts => Some("the sorts that the faults name"),
         _ => None,
     };
-    Seen { wrong, refusal }
+    Seen { wrong, refusal, sorts: answer.sorts }
 }

@@ -12,6 +12,7 @@ mod random;
 mod rust;
 mod sample;
 mod shims;
+mod sorts;
 mod tables;
 mod tally;
 #[cfg(test)]
@@ -26,6 +27,7 @@ use compare::{seen, Case, Desk};
 use domain::Class;
 use generate::{Input, Plan};
 use port::BLOCK;
+use sorts::Sorts;
 use std::io::{self, Read, Write};
 use std::process::ExitCode;
 use std::sync::atomic::{AtomicU64, Ordering};
@@ -256,13 +258,13 @@ fn explain(shown: &Shown, class: Class, tables: &Tables, desk: &mut Desk) -> io:
     println!("    {}", described(&input, tables));
     println!("    not as it should be: {}", case.seen.wrong.unwrap_or(shown.why));
     println!("  should be:");
-    print_answer(case.verdict.refusal, &case.listing);
+    print_answer(case.verdict.refusal, &case.listing, case.verdict.sorts);
     println!("  the port:");
-    print_answer(case.seen.refusal, &case.printed);
+    print_answer(case.seen.refusal, &case.printed, case.seen.sorts);
     Ok(())
 }
 
-fn print_answer(refusal: oracle::Refusal, listing: &[u8]) {
+fn print_answer(refusal: oracle::Refusal, listing: &[u8], sorts: Sorts) {
     if refusal.number != 0 {
         println!("    refusal={},{},{}", refusal.number, refusal.place, refusal.length);
     } else {
@@ -270,4 +272,5 @@ fn print_answer(refusal: oracle::Refusal, listing: &[u8]) {
             println!("    {row}");
         }
     }
+    println!("    sorts that the faults name: {}", sorts.named());
 }

@@ -9,6 +9,7 @@ use crate::page::Page;
 use crate::reference_tables;
 use crate::rust::lexitem::LexItem;
 use crate::rust::{self, Reply};
+use crate::sorts::Sorts;
 use crate::tables::Tables;
 
 /// A refusal's number, place and length; all 0 where there is none.
@@ -41,6 +42,8 @@ pub struct Verdict {
     pub panicked_at: u32,
     /// How many faults of each kind, 1 to 5.
     pub faults: [u32; 6],
+    /// Which sort of number each fault 2 names; none with a refusal but 8.
+    pub sorts: Sorts,
     /// Something about the Rust that 01 doesn't have.
     pub finding: Option<&'static str>,
 }
@@ -67,6 +70,7 @@ impl Oracle {
             did: Did::NotAsked,
             panicked_at: 0,
             faults: [0; 6],
+            sorts: Sorts::default(),
             finding: None,
         };
         self.page.clear();
@@ -178,7 +182,7 @@ impl Oracle {
                     verdict.finding = Some("ANISOU's factors aren't symmetric");
                 }
                 page.faults(errors.len());
-                for error in &errors {
+                for (at, error) in errors.iter().enumerate() {
                     let context = error.context;
                     let number = fault_number(error);
                     if number == 0 {
@@ -186,6 +190,9 @@ impl Oracle {
                     }
                     if context.number != input.number {
                         verdict.finding = Some("a fault with another line number");
+                    }
+                    if number == 2 && !verdict.sorts.note(at, &error.text) {
+                        verdict.finding = Some("a fault 2 that names no sort of number");
                     }
                     verdict.faults[number] += 1;
                     page.three("fault", number, context.place, context.length);

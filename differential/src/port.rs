@@ -4,6 +4,7 @@
 
 use crate::generate::Input;
 use crate::oracle::Refusal;
+use crate::sorts::Sorts;
 use crate::tables::Tables;
 use std::io::{self, Read, Write};
 use std::process::{Child, ChildStdin, ChildStdout, Command, Stdio};
@@ -13,9 +14,10 @@ pub const BLOCK: usize = 15;
 /// The bytes of a request: five words, the line, and the table behind it.
 const REQUEST: usize = 4096;
 const HEAD: usize = 40;
-/// The bytes of a reply: four words and the output.
+/// The bytes of a reply: what each of the four calls answered, the sorts of the faults, a word
+/// each, and the output.
 const REPLY: usize = TOLD + OUTPUT;
-const TOLD: usize = 32;
+const TOLD: usize = 40;
 /// More than is ever lent, so that a byte written behind the lent ones shows.
 pub const OUTPUT: usize = 4160;
 /// What every byte of the output is before the calls.
@@ -27,6 +29,7 @@ pub const LONGEST: usize = 2000;
 pub struct Answer<'a> {
     pub written: u64,
     pub refusal: Refusal,
+    pub sorts: Sorts,
     pub output: &'a [u8],
 }
 
@@ -93,6 +96,7 @@ impl Port {
         Answer {
             written: word(0),
             refusal: Refusal { number: number(1), place: number(2), length: number(3) },
+            sorts: Sorts(word(4)),
             output: &reply[TOLD..],
         }
     }

@@ -76,6 +76,8 @@ pub struct Tally {
     outside: [u64; 28],
     /// Faults of each kind, in the domain.
     faults: [u64; 6],
+    /// Faults 2 by the sort that they name, in the domain.
+    sorts: [u64; 4],
     options: [u64; 4],
     pub findings: BTreeMap<&'static str, (u64, Option<Shown>)>,
     longest: usize,
@@ -106,6 +108,9 @@ impl Tally {
             if refusal == 0 {
                 for (sum, count) in self.faults.iter_mut().zip(verdict.faults) {
                     *sum += u64::from(count);
+                }
+                for at in 0..16 {
+                    self.sorts[verdict.sorts.at(at)] += 1;
                 }
             }
         } else {
@@ -162,6 +167,7 @@ impl Tally {
         }
         add_all(&mut self.outside, &other.outside);
         add_all(&mut self.faults, &other.faults);
+        add_all(&mut self.sorts, &other.sorts);
         add_all(&mut self.options, &other.options);
         for (finding, (count, shown)) in other.findings {
             let (sum, smallest) = self.findings.entry(finding).or_default();
@@ -188,6 +194,10 @@ impl Tally {
         println!(
             "faults by kind: 1: {}, 2: {}, 3: {}, 4: {}, 5: {}",
             self.faults[1], self.faults[2], self.faults[3], self.faults[4], self.faults[5]
+        );
+        println!(
+            "faults 2 by sort: unsigned {}, signed {}, real {}",
+            self.sorts[1], self.sorts[2], self.sorts[3]
         );
         println!("longest listing: {} bytes", self.longest);
         println!(

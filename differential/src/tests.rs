@@ -239,6 +239,31 @@ fn fault_5_follows_fault_2() {
 }
 
 #[test]
+fn sorts() {
+    let mut input = Input::new();
+    let mut named = |line: &str, room: usize| {
+        input.line = line.as_bytes().to_vec();
+        input.room = room;
+        let verdict = Oracle::new().answer(&input, &tables());
+        assert_eq!(verdict.finding, None);
+        verdict.sorts.named()
+    };
+    assert_eq!(named("MODEL 5", 4096), "none");
+    assert_eq!(named("MODEL x", 4096), "unsigned");
+    assert_eq!(named(&padded("ATOM", 80), 4096), "real, real, real, real, real, unsigned, signed");
+    assert_eq!(
+        named(&padded("ANISOU", 80), 4096),
+        "signed, signed, signed, signed, signed, signed, unsigned, signed"
+    );
+    assert_eq!(named(&padded("SSBOND", 78), 4096), "signed, signed, real");
+    // A fault that isn't a 2 names none, and keeps its place.
+    assert_eq!(named(&padded("ATOM", 11), 4096), "none, none, none, none, none, unsigned");
+    // Of the refusals only that of a small output leaves faults.
+    assert_eq!(named("MODEL x", 0), "unsigned");
+    assert_eq!(named(&padded("CRYST1", 54), 4096), "none");
+}
+
+#[test]
 fn the_crates_table_has_42_numbers() {
     let own = tables::crates_own();
     assert_eq!(own.iter().filter(|byte| **byte != 0).count(), 42);

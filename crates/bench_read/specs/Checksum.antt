@@ -11,8 +11,7 @@ use Rattle.lexitem.specs.declared.answer.Answer.{Answer}
 use Rattle.lexitem.specs.declared.answer.Outcome.{Outcome}
 use Rattle.lexitem.specs.declared.answer.Outcome.the-variants.{Accepted, Refused}
 use Rattle.atom.specs.declared.record.Atom.{Atom}
-use Rattle.lexitem.specs.declared.item.LexItem.{LexItem}
-use Rattle.lexitem.specs.declared.item.LexItem.the-variants as item
+use Rattle.lexitem.specs.Describe.{atomIn}
 use Rattle.line.specs.Options.{plain}
 use Rattle.walker.specs.Lines.{linesOf}
 
@@ -29,31 +28,12 @@ mixedAtom sum a =
     (a .bfactor)
 
 -- the other records have no part in the sum
-abbrev pub mixedItem : ℕ → LexItem → ℕ
-mixedItem sum item.Empty = sum
-mixedItem sum (item.Header r) = sum
-mixedItem sum (item.Remark r) = sum
-mixedItem sum (item.Atom a) = mixedAtom sum a
-mixedItem sum (item.Anisou r) = sum
-mixedItem sum (item.Crystal r) = sum
-mixedItem sum (item.Scale r) = sum
-mixedItem sum (item.OrigX r) = sum
-mixedItem sum (item.MtriX r) = sum
-mixedItem sum (item.Model r) = sum
-mixedItem sum (item.Master r) = sum
-mixedItem sum (item.Seqres r) = sum
-mixedItem sum (item.Dbref r) = sum
-mixedItem sum (item.Dbref1 r) = sum
-mixedItem sum (item.Dbref2 r) = sum
-mixedItem sum (item.Seqadv r) = sum
-mixedItem sum (item.Modres r) = sum
-mixedItem sum (item.SSBond r) = sum
-mixedItem sum item.EndModel = sum
-mixedItem sum item.Ter = sum
-mixedItem sum item.End = sum
+abbrev pub mixedAtoms : ℕ → List Atom → ℕ
+mixedAtoms sum [] = sum
+mixedAtoms sum (a ∷ rest) = mixedAtoms (mixedAtom sum a) rest
 
 abbrev pub mixedOutcome : ℕ → Outcome → ℕ
-mixedOutcome sum (Accepted r) = mixedItem sum r
+mixedOutcome sum (Accepted r) = mixedAtoms sum (atomIn r)
 mixedOutcome sum (Refused r) = sum
 
 unfoldable pub mixedAnswer : ℕ → Answer → ℕ

@@ -45,13 +45,13 @@ fn lex_cell(line: &[u8], faults: Faults) -> GotCell
 fn lex_z(line: &[u8], faults: Faults) -> GotUnsigned
     ensures { λ r. ⌜ r ≡ specs.gotZ (now (line .entry)) faults ⌝ }
 {
-    if line.len() <= Crystal::SPACEGROUP.end as usize {
+    if line.len() <= Crystal::Z as usize {
         return GotUnsigned {
             value: Crystal::Z_DEFAULT,
             faults,
         };
     }
-    unsigned_from(line, Crystal::SPACEGROUP.end, faults)
+    unsigned_from(line, Crystal::Z, faults)
 }
 
 pub fn lex_cryst(line: &[u8]) -> GotCrystal

@@ -50,6 +50,9 @@ pub struct Crystal {
 impl Crystal {
     pub const SPACEGROUP: Columns = Columns { start: 55, end: 66 };
 
+    // Z stands from this column to the end of the line.
+    pub const Z: u16 = 66;
+
     pub const Z_DEFAULT: u64 = 1;
 
     pub fn new(cell: Cell, spacegroup: Text, z: u64) -> Self

@@ -22,7 +22,7 @@ pub fn crystal_rows(crystal: Crystal) -> Rows
         Row(Cell::BETA.start, Value::Real(cell.beta)),
         Row(Cell::GAMMA.start, Value::Real(cell.gamma)),
         Row(Crystal::SPACEGROUP.start, Value::Words(spacegroup)),
-        Row(Crystal::SPACEGROUP.end, Value::Unsigned(crystal.z)),
+        Row(Crystal::Z, Value::Unsigned(crystal.z)),
         none,
         none,
         none,

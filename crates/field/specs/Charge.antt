@@ -1,5 +1,5 @@
 -- "Charge: 0 with no fault under 80 bytes or for two blanks; else a digit, then `+` or `-`. Faults: 3 charge not a digit (78, 1); 4 charge
--- unsigned (79, 1)." The remark number's rule: "5 remark number not in the table (7, 3)".
+-- unsigned (79, 1)."
 use Prim.Native.Nat.{ℕ, _-_, _+_}
 use mathlib.Core.Bool.{Bool, cond, not, _&&_, _||_}
 use mathlib.Core.List.{List, [], _∷_}
@@ -10,7 +10,7 @@ use Rattle.number.specs.Whole.{digit, withSign}
 use Rattle.line.specs.Columns.{partOf}
 use Rattle.line.specs.Faults.{allNoted}
 use Rattle.line.specs.declared.columns.Columns.{Columns}
-use Rattle.line.specs.declared.fault.FaultKind.the-variants.{NoDigit, NoSign, Unknown}
+use Rattle.line.specs.declared.fault.FaultKind.the-variants.{NoDigit, NoSign}
 use Rattle.line.specs.declared.fault.Fault.{Fault}
 use Rattle.line.specs.declared.fault.Faults.{Faults}
 use Rattle.field.specs.Number.{faultAt, isFine}
@@ -47,13 +47,6 @@ chargeAt l at = cond (charged (partOf l at)) (chargeOf (getD (partOf l at) 0 0) 
 unfoldable pub chargeFaults : List ℕ → Columns → List Fault
 chargeFaults l at = cond (charged (partOf l at)) (chargeFaultsOf (getD (partOf l at) 0 0) (getD (partOf l at) 1 0) (at .start)) []
 
--- a number is valid if its byte in the remark table isn't 0
-unfoldable pub isKnown : List ℕ → ℕ → Bool
-isKnown remarks n = not (eqb (getD remarks n 0) 0)
-
-unfoldable pub knownFaults : List ℕ → ℕ → Columns → List Fault
-knownFaults remarks n at = cond (isKnown remarks n) [] (faultAt Unknown at ∷ [])
-
 -- ---- the charge, and whether it is fine
 abbrev pub fineCharge : List ℕ → Columns → FineSigned
 fineCharge l at = record { value = chargeAt l at; fine = isFine (chargeFaults l at) }
@@ -61,9 +54,6 @@ fineCharge l at = record { value = chargeAt l at; fine = isFine (chargeFaults l 
 abbrev pub fineChargeOf : ℕ → ℕ → FineSigned
 fineChargeOf d s = record { value = chargeOf d s; fine = digit d && isSign s }
 
--- ---- the charge beside the faults with its own noted, and the faults with the look-up's noted
+-- ---- the charge beside the faults with its own noted
 abbrev pub gotCharge : List ℕ → Columns → Faults → GotSigned
 gotCharge l at fs = record { value = chargeAt l at; faults = allNoted fs (chargeFaults l at) }
-
-abbrev pub knownNoted : List ℕ → ℕ → Columns → Faults → Faults
-knownNoted remarks n at fs = allNoted fs (knownFaults remarks n at)

@@ -2,4 +2,5 @@
 pub mod Number
 pub mod Text
 pub mod Charge
+pub mod Remark
 pub mod Table

@@ -12,7 +12,8 @@ use Rattle.line.specs.declared.fault.Fault.{Fault}
 use Rattle.line.specs.declared.fault.Faults.{Faults}
 use Rattle.field.specs.Number.{isFine, unsignedAt, unsignedFaults, signedFaults, realFaults, factorFaults, unsignedFromFaults}
 use Rattle.field.specs.Text.{textFaults, characterFaults}
-use Rattle.field.specs.Charge.{chargeFaults, knownFaults}
+use Rattle.field.specs.Charge.{chargeFaults}
+use Rattle.field.specs.Remark.{knownFaults}
 
 pub data Entry : Type 0 where
   -- U, I, R with its default, T and C in their columns

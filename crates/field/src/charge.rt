@@ -1,4 +1,4 @@
-// The charge of an atom, a digit and then a sign, and the remark number's look-up.
+// The charge of an atom: a digit and then a sign.
 ghost use mathlib.Core.Path.{_≡_};
 ghost use Prim.Native.Nat.{_<_};
 ghost use Rattle.field.specs.Charge as specs;
@@ -101,25 +101,4 @@ pub fn charge(line: &[u8], at: Columns, faults: Faults) -> GotSigned
         value: got.value,
         faults: faults.note(charge_fault(part[0], at.start)),
     }
-}
-
-// Whether a number is in the remark table.
-fn is_known(remarks: &[u8], number: u64) -> bool
-    ensures { λ r. ⌜ r ≡ specs.isKnown (now (remarks .entry)) number ⌝ }
-{
-    let n = number as usize;
-    if remarks.len() <= n {
-        return false;
-    }
-    remarks[n] != 0
-}
-
-// The look-up of the number that stands in the columns.
-pub fn known(remarks: &[u8], number: u64, at: Columns, faults: Faults) -> Faults
-    ensures { λ r. ⌜ r ≡ specs.knownNoted (now (remarks .entry)) number at faults ⌝ }
-{
-    if is_known(remarks, number) {
-        return faults;
-    }
-    faults.note(Fault::new(FaultKind::Unknown, at.start, at.width()))
 }

@@ -1,6 +1,6 @@
 -- "Over 6 bytes: the first six decide. All else is EMPTY. Atoms only keeps ATOM, HETATM, MODEL, ENDMDL, TER, END and makes the rest EMPTY. From 3
 -- to 6 bytes: TER or END by the first three, else EMPTY. Under 3: EMPTY."
-use Prim.Native.Nat.{ℕ}
+use Prim.Native.Nat.{ℕ, _+_}
 use Prim.Native.String.{String}
 use mathlib.Core.Bool.{Bool, true, false, cond, _&&_}
 use mathlib.Core.List.{List, [], _∷_}
@@ -29,7 +29,7 @@ named s k = record { name = bytes s; kind = k; isKept = false }
 abbrev kept : String → Kind → Named
 kept s k = record { name = bytes s; kind = k; isKept = true }
 
--- the place of a name is its kind's number
+-- in the order of the kinds' numbers, from 0 on
 abbrev pub names : List Named
 names =
     kept "EMPTY " Empty
@@ -61,6 +61,35 @@ names =
     ∷ kept "TER   " Ter
     ∷ kept "END   " End
     ∷ []
+
+-- the rows are 0, 1 and 2; any other counts as the last
+unfoldable pub rowOf : ℕ → ℕ
+rowOf row = cond (eqb row 0) 0 (cond (eqb row 1) 1 2)
+
+-- a kind by its number, which is its name's place
+abbrev pub numberOf : Kind → ℕ
+numberOf Empty = 0
+numberOf Header = 1
+numberOf Remark = 2
+numberOf Atom = 3
+numberOf Hetatm = 4
+numberOf Anisou = 5
+numberOf Cryst1 = 6
+numberOf (Scale row) = 7 + rowOf row
+numberOf (Origx row) = 10 + rowOf row
+numberOf (Mtrix row) = 13 + rowOf row
+numberOf Model = 16
+numberOf Master = 17
+numberOf Dbref = 18
+numberOf Dbref1 = 19
+numberOf Dbref2 = 20
+numberOf Seqres = 21
+numberOf Seqadv = 22
+numberOf Modres = 23
+numberOf Ssbond = 24
+numberOf Endmdl = 25
+numberOf Ter = 26
+numberOf End = 27
 
 abbrev pub keptNames : List Named → List Named
 keptNames [] = []

@@ -2,10 +2,18 @@
 // file `stdout` was worked out apart from this program.
 ghost use Prim.Native.Nat.{_+_, _≤_};
 use libc::STDIN_FILENO;
-use stream::print_line;
+use libc::STDOUT_FILENO;
+use report::fill::put_line;
 use walker::lines::Step;
 use walker::lines::line;
 use walker::step;
+
+// Prints a line's report, in a space where the longest has room.
+fn print_line(text: &[u8], number: usize) {
+    let mut space = io::buffer();
+    let n = put_line(text, number, &mut space);
+    io::write_all(STDOUT_FILENO, &space[..n]);
+}
 
 // Every cut of a line, the first having the number, and the number behind the last one's.
 fn print_cuts(text: &[u8], number: usize) -> usize

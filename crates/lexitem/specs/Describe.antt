@@ -1,23 +1,25 @@
--- What is said of each kind: what it asks of its line, its table of fields, and its record. A part that only some lines have is a Bool argument of
--- the table. "6: CRYST1 under 55, MODRES under 29, SEQADV under 49, SSBOND under 36."
+-- What is said of each kind: what it asks of its line, its table of fields, and its record; and of each record: its rows and its kind. A part
+-- that only some lines have is a Bool argument of the table. "6: CRYST1 under 55, MODRES under 29, SEQADV under 49, SSBOND under 36."
 use Prim.Native.Nat.{ℕ}
-use mathlib.Core.Bool.{Bool, true, false}
-use mathlib.Core.List.{List, []}
+use mathlib.Core.Bool.{Bool, true, false, cond}
+use mathlib.Core.List.{List, [], _∷_}
 use Rattle.field.specs.Table.{Entry, tableFaults}
 use Rattle.line.specs.Given.{Given}
 use Rattle.line.specs.declared.fault.Fault.{Fault}
-use Rattle.header.specs.Header.{headerTable, headerOf}
-use Rattle.remark.specs.Remark.{remarkTable, remarkOf}
-use Rattle.atom.specs.Atom.{atomTable, atomOf, anisouTable, anisouOf}
-use Rattle.crystal.specs.Crystal.{hasZ, crystalTable, crystalOf}
-use Rattle.transformation.specs.Transformation.{transformationTable, scaleOf, origxOf, mtrixTable, mtrixOf}
-use Rattle.model.specs.Model.{modelTable, modelOf}
-use Rattle.master.specs.Master.{masterTable, masterOf}
-use Rattle.seqres.specs.Seqres.{seqresTable, seqresOf}
-use Rattle.dbref.specs.Dbref.{dbrefTable, dbrefOf, dbref1Table, dbref1Of, dbref2Table, dbref2Of}
-use Rattle.seqadv.specs.Seqadv.{hasTarget, seqadvTable, seqadvOf}
-use Rattle.modres.specs.Modres.{modresTable, modresOf}
-use Rattle.ssbond.specs.Ssbond.{hasTail, ssbondTable, ssbondOf}
+use Rattle.header.specs.Header.{headerTable, headerOf, headerFields}
+use Rattle.remark.specs.Remark.{remarkTable, remarkOf, remarkFields}
+use Rattle.atom.specs.Atom.{atomTable, atomOf, anisouTable, anisouOf, atomFields, anisouFields}
+use Rattle.crystal.specs.Crystal.{hasZ, crystalTable, crystalOf, crystalFields}
+use Rattle.transformation.specs.Transformation.{transformationTable, scaleOf, origxOf, mtrixTable, mtrixOf, scaleFields, origxFields, mtrixFields}
+use Rattle.model.specs.Model.{modelTable, modelOf, modelFields}
+use Rattle.master.specs.Master.{masterTable, masterOf, masterFields}
+use Rattle.seqres.specs.Seqres.{seqresTable, seqresOf, seqresFields}
+use Rattle.dbref.specs.Dbref.{dbrefTable, dbrefOf, dbref1Table, dbref1Of, dbref2Table, dbref2Of, dbrefFields, dbref1Fields, dbref2Fields}
+use Rattle.seqadv.specs.Seqadv.{hasTarget, seqadvTable, seqadvOf, seqadvFields}
+use Rattle.modres.specs.Modres.{modresTable, modresOf, modresFields}
+use Rattle.ssbond.specs.Ssbond.{hasTail, ssbondTable, ssbondOf, ssbondFields}
+use Rattle.row.specs.declared.Row.{Row}
+use Rattle.atom.specs.declared.record.Atom.{Atom as AtomRecord}
 use Rattle.kind.specs.declared.Kind.{Kind}
 use Rattle.kind.specs.declared.Kind.the-variants.{Empty, Header, Remark, Atom, Hetatm, Anisou, Cryst1, Scale, Origx, Mtrix, Model, Master, Dbref, Dbref1, Dbref2, Seqres, Seqadv, Modres, Ssbond, Endmdl, Ter, End}
 use Rattle.lexitem.specs.declared.bound.Bound.{Bound}
@@ -85,3 +87,76 @@ itemOf k g = describe k .item g
 -- the faults of a line of a kind, in the order of its table
 unfoldable pub faultsOf : Kind → Given → List Fault
 faultsOf k g = tableFaults g (fieldsBy k (g .line))
+
+-- ---- of a record
+-- "Every field of a kind's row is present (Z and given always), except an absent C, an SSBOND or SEQADV part not read, and triples not read." What
+-- isn't present has its column here and shows nothing
+abbrev pub fieldsOf : LexItem → List Row
+fieldsOf item.Empty = []
+fieldsOf (item.Header v) = headerFields v
+fieldsOf (item.Remark v) = remarkFields v
+fieldsOf (item.Atom v) = atomFields v
+fieldsOf (item.Anisou v) = anisouFields v
+fieldsOf (item.Crystal v) = crystalFields v
+fieldsOf (item.Scale v) = scaleFields v
+fieldsOf (item.OrigX v) = origxFields v
+fieldsOf (item.MtriX v) = mtrixFields v
+fieldsOf (item.Model v) = modelFields v
+fieldsOf (item.Master v) = masterFields v
+fieldsOf (item.Seqres v) = seqresFields v
+fieldsOf (item.Dbref v) = dbrefFields v
+fieldsOf (item.Dbref1 v) = dbref1Fields v
+fieldsOf (item.Dbref2 v) = dbref2Fields v
+fieldsOf (item.Seqadv v) = seqadvFields v
+fieldsOf (item.Modres v) = modresFields v
+fieldsOf (item.SSBond v) = ssbondFields v
+fieldsOf item.EndModel = []
+fieldsOf item.Ter = []
+fieldsOf item.End = []
+
+abbrev pub kindOfItem : LexItem → Kind
+kindOfItem item.Empty = Empty
+kindOfItem (item.Header v) = Header
+kindOfItem (item.Remark v) = Remark
+kindOfItem (item.Atom v) = cond (v .hetero) Hetatm Atom
+kindOfItem (item.Anisou v) = Anisou
+kindOfItem (item.Crystal v) = Cryst1
+kindOfItem (item.Scale v) = Scale (v .row)
+kindOfItem (item.OrigX v) = Origx (v .row)
+kindOfItem (item.MtriX v) = Mtrix (v .row)
+kindOfItem (item.Model v) = Model
+kindOfItem (item.Master v) = Master
+kindOfItem (item.Seqres v) = Seqres
+kindOfItem (item.Dbref v) = Dbref
+kindOfItem (item.Dbref1 v) = Dbref1
+kindOfItem (item.Dbref2 v) = Dbref2
+kindOfItem (item.Seqadv v) = Seqadv
+kindOfItem (item.Modres v) = Modres
+kindOfItem (item.SSBond v) = Ssbond
+kindOfItem item.EndModel = Endmdl
+kindOfItem item.Ter = Ter
+kindOfItem item.End = End
+
+-- the atom that a record is, if it is one
+abbrev pub atomIn : LexItem → List AtomRecord
+atomIn item.Empty = []
+atomIn (item.Header v) = []
+atomIn (item.Remark v) = []
+atomIn (item.Atom v) = v ∷ []
+atomIn (item.Anisou v) = []
+atomIn (item.Crystal v) = []
+atomIn (item.Scale v) = []
+atomIn (item.OrigX v) = []
+atomIn (item.MtriX v) = []
+atomIn (item.Model v) = []
+atomIn (item.Master v) = []
+atomIn (item.Seqres v) = []
+atomIn (item.Dbref v) = []
+atomIn (item.Dbref1 v) = []
+atomIn (item.Dbref2 v) = []
+atomIn (item.Seqadv v) = []
+atomIn (item.Modres v) = []
+atomIn (item.SSBond v) = []
+atomIn item.EndModel = []
+atomIn item.Ter = []
+atomIn item.End = []

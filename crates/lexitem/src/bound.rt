@@ -19,27 +19,12 @@ pub fn bound_of(kind: Kind) -> Bound
     ensures { λ r. ⌜ r ≡ specs.boundOf kind ⌝ }
 {
     match kind {
-        Kind::Empty => Bound::Free,
         Kind::Header => Bound::Header,
         Kind::Remark => Bound::Remark,
-        Kind::Atom => Bound::Free,
-        Kind::Hetatm => Bound::Free,
-        Kind::Anisou => Bound::Free,
         Kind::Cryst1 => Bound::Least(Crystal::SPACEGROUP.start as usize),
-        Kind::Scale(_) => Bound::Free,
-        Kind::Origx(_) => Bound::Free,
-        Kind::Mtrix(_) => Bound::Free,
-        Kind::Model => Bound::Free,
-        Kind::Master => Bound::Free,
-        Kind::Dbref => Bound::Free,
-        Kind::Dbref1 => Bound::Free,
-        Kind::Dbref2 => Bound::Free,
-        Kind::Seqres => Bound::Free,
         Kind::Seqadv => Bound::Least(Seqadv::COMMENT as usize),
         Kind::Modres => Bound::Least(Modres::COMMENT as usize),
         Kind::Ssbond => Bound::Least(SSBond::OTHER_INSERTION as usize + 1),
-        Kind::Endmdl => Bound::Free,
-        Kind::Ter => Bound::Free,
-        Kind::End => Bound::Free,
+        _ => Bound::Free,
     }
 }

@@ -3,4 +3,3 @@ pub mod answer;
 pub mod bound;
 pub mod item;
 pub mod read;
-pub mod rows;

@@ -76,7 +76,7 @@ impl Faults {
         }
     }
 
-    // The only way in.
+    // How a reader puts a fault in: behind the others, or apart if the list is full.
     pub fn note(self, fault: Fault) -> Self
         ensures { λ r. ⌜ r ≡ noted self fault ⌝ }
     {

@@ -5,6 +5,7 @@ pub mod Each
 pub mod Rows
 pub mod Fitted
 pub mod Room
+pub mod Table
 pub mod Longest
 pub mod Given
 pub mod One

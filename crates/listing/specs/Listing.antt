@@ -9,7 +9,7 @@ use Rattle.line.specs.declared.fault.Fault.{Fault}
 use Rattle.lexitem.specs.declared.item.LexItem.{LexItem}
 use Rattle.page.specs.Numerals.{decimal}
 use Rattle.kind.specs.Name.{nameOf}
-use Rattle.lexitem.specs.Item.{fieldsOf, kindOfItem}
+use Rattle.lexitem.specs.Describe.{fieldsOf, kindOfItem}
 use Rattle.listing.specs.Each.{each}
 use Rattle.listing.specs.Row.{rowsBytes}
 

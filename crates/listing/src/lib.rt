@@ -7,7 +7,7 @@ ghost use Rattle.listing.specs.Listed as into;
 ghost use Rattle.listing.specs.Listing as specs;
 ghost use Rattle.page.specs.Page.{page, put};
 ghost use Rattle.kind.specs.Name.{nameOf};
-ghost use Rattle.lexitem.specs.Item.{kindOfItem};
+ghost use Rattle.lexitem.specs.Describe.{kindOfItem};
 
 mod fault;
 mod put;
@@ -19,7 +19,7 @@ use lexer::lex_line;
 use lexitem::answer::Outcome;
 use lexitem::answer::Refusal;
 use lexitem::item::LexItem;
-use lexitem::rows::rows_of;
+use lexitem::item::rows_of;
 use line::fault::Fault;
 use line::options::Options;
 use page::put_byte;

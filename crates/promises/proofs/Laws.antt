@@ -3,7 +3,8 @@ pub mod RealsNamed
 pub mod RealsTable
 pub mod RealsField
 pub mod Reals
-pub mod Departures
+pub mod Kinds
+pub mod Fields
 pub mod Agreeing
 pub mod Refusing
 pub mod Few

@@ -1,7 +1,10 @@
--- "Defaults: 0 for U, I and a faulted charge, 0.0 for R but 1.0 at 54..60, empty text, one blank for C. An empty text has place 0, length 0." A
--- constant in a definition is believed by every theorem about it, so each has a case here, a line of blanks or a cut one with its whole record.
+-- What a definition alone decides is believed by every theorem about it, so each such choice has a case here.
+--     defaults    "Defaults: 0 for U, I and a faulted charge, 0.0 for R but 1.0 at 54..60, empty text, one blank for C. An empty text has place
+--                 0, length 0." A line of blanks or a cut one with its whole record, and the sort of each number field in its faults.
+--     readings    which triples are read, when a residue of the database is, and what is trimmed
+use Prim.Native.Nat.{ℕ}
 use mathlib.Core.Bool.{true, false}
-use mathlib.Core.List.{List, [], _∷_, _++_}
+use mathlib.Core.List.{List, [], _∷_, _++_, map}
 use lib.IntN.{pos}
 use lib.Ieee.{Float}
 use Rattle.line.specs.Bytes.{bytes}
@@ -12,12 +15,13 @@ use Rattle.seqadv.specs.declared.record.Target.{Target}
 use Rattle.seqadv.specs.declared.record.Target.the-variants.{Residue, NoResidue}
 use Rattle.ssbond.specs.declared.record.Tail.{Tail}
 use Rattle.ssbond.specs.declared.record.Tail.the-variants.{Bond, NoTail}
+use Rattle.line.specs.declared.fault.Sort.the-variants.{Unsigned as U, Signed as I, Real as R}
 use Rattle.line.specs.declared.text.Character.{Character}
 use Rattle.line.specs.declared.text.Character.the-variants.{At, Unreached, Absent}
 use Rattle.line.specs.declared.text.Text.{Text}
 use Rattle.transformation.specs.declared.record.Transformation.{Transformation}
-use Rattle.promises.specs.Edges.{Claim, Case, on, onUnknown, filled, real}
-use Rattle.promises.specs.Edges.Claim.{is, field, faults, count}
+use Rattle.promises.specs.Edges.{Claim, Case, Told, fault, wrong, on, onUnknown, filled, real}
+use Rattle.promises.specs.Edges.Claim.{is, field, faults}
 
 -- 0.0 and 1.0
 abbrev zero : Float
@@ -53,6 +57,10 @@ atom chain = is (item.Atom (record {
   bfactor = zero;
 }))
 
+abbrev atomFaults : Claim
+atomFaults =
+    faults (wrong R 30 8 ∷ wrong R 38 8 ∷ wrong R 46 8 ∷ wrong R 54 6 ∷ wrong R 60 6 ∷ wrong U 6 5 ∷ wrong I 22 4 ∷ [])
+
 abbrev anisou : Character → Claim
 anisou chain = is (item.Anisou (record {
   basics = basics chain;
@@ -68,6 +76,9 @@ crystal = is (item.Crystal (record {
 
 abbrev row : Transformation
 row = record { a = zero; b = zero; c = zero; d = zero }
+
+abbrev rowFaults : List Told
+rowFaults = wrong R 10 10 ∷ wrong R 20 10 ∷ wrong R 30 10 ∷ wrong R 45 10 ∷ []
 
 abbrev master : Claim
 master = is (item.Master (record {
@@ -111,36 +122,38 @@ ssbond tail = is (item.SSBond (record {
 abbrev pub defaults : List Case
 defaults =
     on (filled 80 (bytes "ATOM  "))
-    (atom (At 21)
-    ∷ faults ((2, 30, 8) ∷ (2, 38, 8) ∷ (2, 46, 8) ∷ (2, 54, 6) ∷ (2, 60, 6) ∷ (2, 6, 5) ∷ (2, 22, 4) ∷ [])
-    ∷ [])
+    (atom (At 21) ∷ atomFaults ∷ [])
     ∷ on (bytes "ATOM   ") (atom Unreached ∷ [])
-    ∷ on (filled 80 (bytes "HETATM")) (field item.Atom (λ a. a .hetero) true ∷ [])
+    ∷ on (filled 80 (bytes "HETATM")) (field item.Atom (λ a. a .hetero) true ∷ atomFaults ∷ [])
     ∷ on (filled 80 (bytes "ANISOU"))
     (anisou (At 21)
-    ∷ faults ((2, 28, 7) ∷ (2, 35, 7) ∷ (2, 42, 7) ∷ (2, 49, 7) ∷ (2, 56, 7) ∷ (2, 63, 7) ∷ (2, 6, 5) ∷ (2, 22, 4) ∷ [])
+    ∷ faults (wrong I 28 7 ∷ wrong I 35 7 ∷ wrong I 42 7 ∷ wrong I 49 7 ∷ wrong I 56 7 ∷ wrong I 63 7 ∷ wrong U 6 5 ∷ wrong I 22 4 ∷ [])
     ∷ [])
     ∷ on (bytes "ANISOU ") (anisou Unreached ∷ [])
     ∷ on (filled 55 (bytes "CRYST1"))
-    (crystal ∷ faults ((2, 6, 9) ∷ (2, 15, 9) ∷ (2, 24, 9) ∷ (2, 33, 7) ∷ (2, 40, 7) ∷ (2, 47, 7) ∷ []) ∷ [])
+    (crystal ∷ faults (wrong R 6 9 ∷ wrong R 15 9 ∷ wrong R 24 9 ∷ wrong R 33 7 ∷ wrong R 40 7 ∷ wrong R 47 7 ∷ []) ∷ [])
     ∷ on (filled 55 (bytes "SCALE1"))
-    (is (item.Scale (record { row = 0; values = row }))
-    ∷ faults ((2, 10, 10) ∷ (2, 20, 10) ∷ (2, 30, 10) ∷ (2, 45, 10) ∷ [])
-    ∷ [])
+    (is (item.Scale (record { row = 0; values = row })) ∷ faults rowFaults ∷ [])
+    ∷ on (filled 55 (bytes "ORIGX2"))
+    (is (item.OrigX (record { row = 1; values = row })) ∷ faults rowFaults ∷ [])
     ∷ on (bytes "ORIGX2 ")
     (is (item.OrigX (record { row = 1; values = row }))
-    ∷ faults ((1, 10, 10) ∷ (1, 20, 10) ∷ (1, 30, 10) ∷ (1, 45, 10) ∷ [])
+    ∷ faults (fault 1 10 10 ∷ fault 1 20 10 ∷ fault 1 30 10 ∷ fault 1 45 10 ∷ [])
     ∷ [])
     ∷ on (filled 59 (bytes "MTRIX3"))
     (is (item.MtriX (record { row = 2; serial = 0; values = row; given = false }))
-    ∷ faults ((2, 7, 3) ∷ (2, 10, 10) ∷ (2, 20, 10) ∷ (2, 30, 10) ∷ (2, 45, 10) ∷ [])
+    ∷ faults (wrong U 7 3 ∷ rowFaults)
     ∷ [])
     ∷ on (filled 59 (bytes "MTRIX3") ++ bytes "1") (field item.MtriX (λ m. m .given) true ∷ [])
-    ∷ on (filled 70 (bytes "MASTER")) (master ∷ count 12 ∷ [])
+    ∷ on (filled 70 (bytes "MASTER"))
+    (master
+    ∷ faults (map (λ column. wrong U column 5) (10 ∷ 15 ∷ 20 ∷ 25 ∷ 30 ∷ 35 ∷ 40 ∷ 45 ∷ 50 ∷ 55 ∷ 60 ∷ 65 ∷ []))
+    ∷ [])
     ∷ on (bytes "SEQRES ")
     (is (item.Seqres (record { serial = 0; chain = Unreached; residues = 0; triples = 0 }))
-    ∷ faults ((1, 7, 3) ∷ (1, 11, 1) ∷ (1, 13, 4) ∷ [])
+    ∷ faults (fault 1 7 3 ∷ fault 1 11 1 ∷ fault 1 13 4 ∷ [])
     ∷ [])
+    ∷ on (filled 17 (bytes "SEQRES")) (faults (wrong U 7 3 ∷ wrong U 13 4 ∷ []) ∷ [])
     ∷ on (filled 68 (bytes "DBREF "))
     (is (item.Dbref (record {
       code = none;
@@ -151,19 +164,20 @@ defaults =
       name = none;
       target = segment (At 60) (At 67);
     }))
-    ∷ faults ((2, 14, 4) ∷ (2, 20, 4) ∷ (2, 55, 5) ∷ (2, 62, 5) ∷ [])
+    ∷ faults (wrong I 14 4 ∷ wrong I 20 4 ∷ wrong I 55 5 ∷ wrong I 62 5 ∷ [])
     ∷ [])
     ∷ on (bytes "DBREF1 ")
     (is (item.Dbref1 (record { code = none; chain = none; segment = segment Unreached Unreached; database = none; name = none }))
-    ∷ faults ((1, 7, 4) ∷ (1, 12, 1) ∷ (1, 14, 4) ∷ (1, 18, 1) ∷ (1, 21, 3) ∷ (1, 24, 1) ∷ (1, 26, 6) ∷ (1, 47, 20) ∷ [])
+    ∷ faults (fault 1 7 4 ∷ fault 1 12 1 ∷ fault 1 14 4 ∷ fault 1 18 1 ∷ fault 1 21 3 ∷ fault 1 24 1 ∷ fault 1 26 6 ∷ fault 1 47 20 ∷ [])
     ∷ [])
+    ∷ on (filled 67 (bytes "DBREF1")) (faults (wrong I 14 4 ∷ wrong I 21 3 ∷ []) ∷ [])
     ∷ on (filled 67 (bytes "DBREF2"))
     (is (item.Dbref2 (record { code = none; chain = none; accession = none; begin = pos 0; end = pos 0 }))
-    ∷ faults ((2, 45, 10) ∷ (2, 57, 10) ∷ [])
+    ∷ faults (wrong I 45 10 ∷ wrong I 57 10 ∷ [])
     ∷ [])
-    ∷ on (filled 49 (bytes "SEQADV")) (seqadv NoResidue ∷ faults ((2, 18, 4) ∷ []) ∷ [])
+    ∷ on (filled 49 (bytes "SEQADV")) (seqadv NoResidue ∷ faults (wrong I 18 4 ∷ []) ∷ [])
     ∷ on (filled 49 (filled 39 (bytes "SEQADV") ++ bytes "ALA"))
-    (seqadv (Residue (record { place = 39; length = 3 }) (pos 0)) ∷ faults ((2, 18, 4) ∷ (2, 43, 5) ∷ []) ∷ [])
+    (seqadv (Residue (record { place = 39; length = 3 }) (pos 0)) ∷ faults (wrong I 18 4 ∷ wrong I 43 5 ∷ []) ∷ [])
     ∷ on (filled 29 (bytes "MODRES"))
     (is (item.Modres (record {
       code = none;
@@ -174,14 +188,15 @@ defaults =
       standard = none;
       comment = none;
     }))
-    ∷ faults ((2, 18, 4) ∷ [])
+    ∷ faults (wrong I 18 4 ∷ [])
     ∷ [])
-    ∷ on (filled 36 (bytes "SSBOND")) (ssbond NoTail ∷ faults ((2, 17, 4) ∷ (2, 31, 4) ∷ []) ∷ [])
-    ∷ on (filled 78 (bytes "SSBOND")) (ssbond (Bond none none zero) ∷ faults ((2, 17, 4) ∷ (2, 31, 4) ∷ (2, 73, 5) ∷ []) ∷ [])
+    ∷ on (filled 36 (bytes "SSBOND")) (ssbond NoTail ∷ faults (wrong I 17 4 ∷ wrong I 31 4 ∷ []) ∷ [])
+    ∷ on (filled 78 (bytes "SSBOND")) (ssbond (Bond none none zero) ∷ faults (wrong I 17 4 ∷ wrong I 31 4 ∷ wrong R 73 5 ∷ []) ∷ [])
     ∷ on (bytes "REMARK 999 ") (is (item.Remark (record { number = 999; text = none })) ∷ faults [] ∷ [])
+    ∷ on (filled 10 (bytes "REMARK")) (is (item.Remark (record { number = 0; text = none })) ∷ faults (wrong U 7 3 ∷ []) ∷ [])
     -- a number that isn't in the table, and one that is faulted, which is looked up as 0
-    ∷ onUnknown (bytes "REMARK 999 ") (is (item.Remark (record { number = 999; text = none })) ∷ faults ((5, 7, 3) ∷ []) ∷ [])
-    ∷ onUnknown (bytes "REMARK  ") (is (item.Remark (record { number = 0; text = none })) ∷ faults ((1, 7, 3) ∷ (5, 7, 3) ∷ []) ∷ [])
+    ∷ onUnknown (bytes "REMARK 999 ") (is (item.Remark (record { number = 999; text = none })) ∷ faults (fault 5 7 3 ∷ []) ∷ [])
+    ∷ onUnknown (bytes "REMARK  ") (is (item.Remark (record { number = 0; text = none })) ∷ faults (fault 1 7 3 ∷ fault 5 7 3 ∷ []) ∷ [])
     ∷ on (filled 66 (bytes "HEADER"))
     (is (item.Header (record {
       classification = record { place = 10; length = 40 };
@@ -190,8 +205,38 @@ defaults =
     }))
     ∷ faults []
     ∷ [])
+    ∷ []
+
+-- ---- the readings
+-- a SEQRES whose triples begin at 19
+abbrev triples : List ℕ → ℕ → Case
+triples written n = on (bytes "SEQRES   1 A   13  " ++ written) (field item.Seqres (λ s. s .triples) n ∷ faults [] ∷ [])
+
+-- thirteen of them, the line ending with the last; some have blanks
+abbrev thirteen : List ℕ
+thirteen = bytes "ALA  DA   U C   CYS GLN GLU GLY HIS ILE LEU LYS MET"
+
+-- a SEQADV that is blank but for one byte
+abbrev only : ℕ → ℕ → List ℕ
+only column byte = filled 49 (filled column (bytes "SEQADV") ++ byte ∷ [])
+
+abbrev pub readings : List Case
+readings =
+    -- "triples start at 19, 23, .. 67, while start+3 is at most min(len, 71), and stop at the first three blanks": a fourteenth isn't read, and
+    -- what stands between them, at 22, 26, .., doesn't count
+    triples thirteen 13
+    ∷ triples (thirteen ++ bytes " PHE") 13
+    ∷ triples (bytes "ALA-   -ASN-ASP-CYS-GLN-GLU-GLY-HIS-ILE-LEU-LYS-MET") 1
+    -- "if 39..48 isn't all blanks, T 39..42 and I 43..48": column 42 is of neither field, and 38 and 48 aren't among them
+    ∷ on (only 42 88) (seqadv (Residue none (pos 0)) ∷ faults (wrong I 18 4 ∷ wrong I 43 5 ∷ []) ∷ [])
+    ∷ on (only 47 53) (seqadv (Residue none (pos 5)) ∷ faults (wrong I 18 4 ∷ []) ∷ [])
+    ∷ on (only 38 88) (seqadv NoResidue ∷ faults (wrong I 18 4 ∷ []) ∷ [])
+    ∷ on (only 48 88) (seqadv NoResidue ∷ faults (wrong I 18 4 ∷ []) ∷ [])
+    -- "text from 11 with its end trimmed", and T, which is trimmed at both ends
+    ∷ on (bytes "REMARK   2   TEXT  ") (field item.Remark (λ r. r .text) (record { place = 11; length = 6 }) ∷ faults [] ∷ [])
+    ∷ on (filled 29 (bytes "MODRES") ++ bytes "  TEXT  ") (field item.Modres (λ m. m .comment) (record { place = 31; length = 4 }) ∷ [])
     -- trim takes off bytes 9 to 13 and 32, and not 8 or 14
     ∷ on (bytes "MODEL " ++ 9 ∷ 10 ∷ 11 ∷ 53 ∷ 12 ∷ 13 ∷ 32 ∷ []) (field item.Model (λ m. m .number) 5 ∷ faults [] ∷ [])
-    ∷ on (bytes "MODEL " ++ 8 ∷ 53 ∷ []) (field item.Model (λ m. m .number) 0 ∷ faults ((2, 6, 2) ∷ []) ∷ [])
-    ∷ on (bytes "MODEL " ++ 53 ∷ 14 ∷ []) (field item.Model (λ m. m .number) 0 ∷ faults ((2, 6, 2) ∷ []) ∷ [])
+    ∷ on (bytes "MODEL " ++ 8 ∷ 53 ∷ []) (field item.Model (λ m. m .number) 0 ∷ faults (wrong U 6 2 ∷ []) ∷ [])
+    ∷ on (bytes "MODEL " ++ 53 ∷ 14 ∷ []) (field item.Model (λ m. m .number) 0 ∷ faults (wrong U 6 2 ∷ []) ∷ [])
     ∷ []

@@ -15,10 +15,36 @@ use Rattle.line.specs.Options.{plain}
 use Rattle.line.specs.declared.options.Options.{Options}
 use Rattle.lexitem.specs.declared.answer.Outcome.the-variants.{Accepted, Refused}
 use Rattle.line.specs.declared.fault.Fault.{Fault}
+use Rattle.line.specs.declared.fault.FaultKind.{FaultKind}
+use Rattle.line.specs.declared.fault.FaultKind.the-variants.{Short, Wrong, NoDigit, NoSign, Unknown}
+use Rattle.line.specs.declared.fault.Sort.{Sort}
+use Rattle.line.specs.declared.fault.Sort.the-variants.{Unsigned as U, Signed as I, Real as R}
 use Rattle.lexitem.specs.declared.item.LexItem.{LexItem}
 use Rattle.lexitem.specs.declared.item.LexItem.the-variants as item
 use Rattle.lexer.specs.Lexed.{lexed}
 use Rattle.lexitem.specs.Answer.{refusal}
+
+-- what 01 tells of a fault: its number, place and length, and "for 2, each fault says which sort of number the columns should have held"
+abbrev pub Told : Type 0
+Told = ℕ × ℕ × ℕ × List Sort
+
+-- a fault that names no sort, by its number; and a fault 2, whose sort has 01's letter: "U unsigned, I signed, R real"
+abbrev pub fault : ℕ → ℕ → ℕ → Told
+fault number place length = (number, place, length, [])
+
+abbrev pub wrong : Sort → ℕ → ℕ → Told
+wrong sort place length = (2, place, length, sort ∷ [])
+
+-- the sort that a fault names, if it names one
+abbrev pub sortOf : FaultKind → List Sort
+sortOf Short = []
+sortOf (Wrong sort) = sort ∷ []
+sortOf NoDigit = []
+sortOf NoSign = []
+sortOf Unknown = []
+
+abbrev pub toldBy : Fault → Told
+toldBy f = (numberOf (f .kind), f .place, f .length, sortOf (f .kind))
 
 -- what is claimed of an answer
 pub data Claim : Type 1 where
@@ -26,15 +52,11 @@ pub data Claim : Type 1 where
   is : LexItem → Claim
   -- a field's value, in a record of a kind
   field : {A B : Type 0} → (A → LexItem) → (A → B) → B → Claim
-  -- the faults, each by its number, place and length, or how many there are
-  faults : List (ℕ × ℕ × ℕ) → Claim
+  -- the faults, or how many there are
+  faults : List Told → Claim
   count : ℕ → Claim
   -- a refusal by its number, place and length
   refused : ℕ → ℕ → ℕ → Claim
-
--- a fault's number, place and length
-abbrev pub toldBy : Fault → ℕ × ℕ × ℕ
-toldBy f = (numberOf (f .kind), f .place, f .length)
 
 -- the answer has at a claim's place what the claim says
 abbrev pub Found : Answer → Claim → Type 0
@@ -116,10 +138,10 @@ edges =
     ∷ on (bytes "MODEL ") (is item.Empty ∷ [])
     -- P5 MODEL 18446744073709551615 is read; ..616 gives 0 and fault 2
     ∷ on (bytes "MODEL 18446744073709551615") (field item.Model (λ m. m .number) 18446744073709551615 ∷ faults [] ∷ [])
-    ∷ on (bytes "MODEL 18446744073709551616") (field item.Model (λ m. m .number) 0 ∷ faults ((2, 6, 20) ∷ []) ∷ [])
+    ∷ on (bytes "MODEL 18446744073709551616") (field item.Model (λ m. m .number) 0 ∷ faults (wrong U 6 20 ∷ []) ∷ [])
     -- P6 `+5` is U 5; `-0` is fault 2 as U and 0 as I
     ∷ on (bytes "MODEL +5") (field item.Model (λ m. m .number) 5 ∷ faults [] ∷ [])
-    ∷ on (bytes "MODEL -0") (field item.Model (λ m. m .number) 0 ∷ faults ((2, 6, 2) ∷ []) ∷ [])
+    ∷ on (bytes "MODEL -0") (field item.Model (λ m. m .number) 0 ∷ faults (wrong U 6 2 ∷ []) ∷ [])
     ∷ on (bytes "MODRES 1ABC MSE A   -0  MET  SELENOMETHIONINE") (field item.Modres (λ m. m .number) (pos 0) ∷ faults [] ∷ [])
     -- P7 R `5.` and `.5` are read, `.` isn't
     ∷ on (bytes "SCALE1            5.        .5         .             -0")
@@ -127,16 +149,16 @@ edges =
     ∷ field item.Scale (λ s. s .values .b) (real 0x3FE0000000000000)
     ∷ field item.Scale (λ s. s .values .c) (real 0)
     ∷ field item.Scale (λ s. s .values .d) (real 0x8000000000000000)
-    ∷ faults ((2, 30, 10) ∷ [])
+    ∷ faults (wrong R 30 10 ∷ [])
     ∷ [])
     -- P8 charge `2-` is -2; blank then `2` is fault 3; `2` then blank is fault 4
     ∷ on (charged "2-") (field item.Atom (λ a. a .basics .charge) (negℤ (pos 2)) ∷ faults [] ∷ [])
-    ∷ on (charged " 2") (field item.Atom (λ a. a .basics .charge) (pos 0) ∷ faults ((3, 78, 1) ∷ []) ∷ [])
-    ∷ on (charged "2 ") (field item.Atom (λ a. a .basics .charge) (pos 0) ∷ faults ((4, 79, 1) ∷ []) ∷ [])
+    ∷ on (charged " 2") (field item.Atom (λ a. a .basics .charge) (pos 0) ∷ faults (fault 3 78 1 ∷ []) ∷ [])
+    ∷ on (charged "2 ") (field item.Atom (λ a. a .basics .charge) (pos 0) ∷ faults (fault 4 79 1 ∷ []) ∷ [])
     -- P9 CRYST1 of 54 is refusal 6; of 66, Z is 1; of 67 with a blank there, 0 and a fault
     ∷ on cell (refused 6 54 1 ∷ [])
     ∷ on (filled 66 crystal) (field item.Crystal (λ c. c .z) 1 ∷ faults [] ∷ [])
-    ∷ on (filled 67 crystal) (field item.Crystal (λ c. c .z) 0 ∷ faults ((2, 66, 1) ∷ []) ∷ [])
+    ∷ on (filled 67 crystal) (field item.Crystal (λ c. c .z) 0 ∷ faults (wrong U 66 1 ∷ []) ∷ [])
     -- P10 REMARK trimmed to 79 is read, to 80 is refusal 5 unless loose
     ∷ on (remark 68) (field item.Remark (λ r. r .text) (record { place = 11; length = 68 }) ∷ faults [] ∷ [])
     ∷ on (remark 69) (refused 5 80 5 ∷ [])

@@ -5,7 +5,7 @@
 use Prim.Native.Nat.{ℕ, suc, _-_, _≤_}
 use mathlib.Core.Path.{_≡_}
 use mathlib.Core.Bool.{Bool, cond, _&&_}
-use mathlib.Core.List.{List, [], _∷_}
+use mathlib.Core.List.{List, [], _∷_, _++_}
 use lib.ListN.{length}
 use lib.Dec.{eqb}
 use lib.IntN.{natAbs}
@@ -19,20 +19,17 @@ use Rattle.number.specs.declared.whole.Signed.the-variants.{I, NotI}
 use Rattle.number.specs.declared.decimal.Decimal.{Decimal}
 use Rattle.number.specs.declared.decimal.Decimal.the-variants.{Plain, NotPlain}
 use Rattle.line.specs.Columns.{partOf}
-use Rattle.atom.specs.Atom as atom
-use Rattle.crystal.specs.Crystal as crystal
-use Rattle.ssbond.specs.Ssbond as ssbond
-use Rattle.transformation.specs.Transformation as transformation
 use Rattle.line.specs.declared.columns.Columns.{Columns}
 use Rattle.line.specs.declared.fault.Fault.{Fault}
-use Rattle.lexitem.specs.declared.item.LexItem.{LexItem}
-use Rattle.lexitem.specs.declared.item.LexItem.the-variants as item
-use Rattle.ssbond.specs.declared.record.Tail.{Tail}
-use Rattle.ssbond.specs.declared.record.Tail.the-variants.{Bond, NoTail}
-use Rattle.transformation.specs.declared.record.Transformation.{Transformation}
-use Rattle.field.specs.Number.{zeroReal, oneReal}
+use Rattle.field.specs.Number.{realAt, factorAt, zeroReal}
+use Rattle.field.specs.Table.{Entry}
+use Rattle.field.specs.Table.Entry.{u, i, r, t, c, c?, a, u-rest, x, t-within, t-rest, t-end, charge, known, given, unwritten, triples}
+use Rattle.line.specs.Given.{Given}
+use Rattle.row.specs.declared.Row.{Row}
+use Rattle.row.specs.declared.Value.{Value}
+use Rattle.row.specs.declared.Value.the-variants as value
 
--- ---- the real fields of a record
+-- ---- the real fields of a table
 -- how a field's number is written: as a plain decimal, or as an integer in ten-thousandths
 pub data Form : Type 0 where
   decimal : Form
@@ -45,69 +42,43 @@ pub record RealField : Type 0 where
   pub value : Float
   pub default : Float
 
-abbrev pub real : Columns → Float → RealField
-real at x = record { columns = at; form = Form.decimal; value = x; default = zeroReal }
+-- R, and one of ANISOU's six, before the fields of other entries; no other entry is a real
+abbrev pub realBy : Given → Entry → List RealField → List RealField
+realBy g (u at) others = others
+realBy g (i at) others = others
+realBy g (r at default) others = record { columns = at; form = Form.decimal; value = realAt (g .line) at default; default = default } ∷ others
+realBy g (t at) others = others
+realBy g (c at) others = others
+realBy g (c? at) others = others
+realBy g (a at) others = record { columns = at; form = Form.integer; value = factorAt (g .line) at; default = zeroReal } ∷ others
+realBy g (u-rest start) others = others
+realBy g (x at) others = others
+realBy g (t-within at) others = others
+realBy g (t-rest start) others = others
+realBy g (t-end start) others = others
+realBy g (charge at) others = others
+realBy g (known at) others = others
+realBy g (given column) others = others
+realBy g (unwritten column) others = others
+realBy g (triples start) others = others
 
--- one of ANISOU's six
-abbrev pub factor : Columns → Float → RealField
-factor at x = record { columns = at; form = Form.integer; value = x; default = zeroReal }
+abbrev pub realsBy : Given → List Entry → List RealField
+realsBy g [] = []
+realsBy g (e ∷ rest) = realBy g e (realsBy g rest)
 
--- a transformation row
-abbrev pub rowReals : Transformation → List RealField
-rowReals x =
-    real (transformation.at transformation.Field.a) (x .a)
-    ∷ real (transformation.at transformation.Field.b) (x .b)
-    ∷ real (transformation.at transformation.Field.c) (x .c)
-    ∷ real (transformation.at transformation.Field.d) (x .d)
-    ∷ []
+-- the reals that rows show, each with its column
+abbrev pub realOfRow : ℕ → Value → List (ℕ × Float)
+realOfRow column (value.Unsigned n) = []
+realOfRow column (value.Signed n) = []
+realOfRow column (value.Real y) = (column, y) ∷ []
+realOfRow column (value.Words text) = []
+realOfRow column (value.One character) = []
+realOfRow column (value.Flag b) = []
+realOfRow column value.Nothing = []
 
--- the bond's length, if the line has it
-abbrev pub tailReals : Tail → List RealField
-tailReals (Bond first second length) = real (ssbond.at ssbond.Field.distance) length ∷ []
-tailReals NoTail = []
-
-abbrev pub realsOf : LexItem → List RealField
-realsOf item.Empty = []
-realsOf (item.Header x) = []
-realsOf (item.Remark x) = []
-realsOf (item.Atom x) =
-    real (atom.at atom.Field.x) (x .position .x)
-    ∷ real (atom.at atom.Field.y) (x .position .y)
-    ∷ real (atom.at atom.Field.z) (x .position .z)
-    ∷ record { columns = atom.at atom.Field.occupancy; form = Form.decimal; value = x .occupancy; default = oneReal }
-    ∷ real (atom.at atom.Field.bfactor) (x .bfactor)
-    ∷ []
-realsOf (item.Anisou x) =
-    factor (atom.at atom.Field.u11) (x .factors .u11)
-    ∷ factor (atom.at atom.Field.u22) (x .factors .u22)
-    ∷ factor (atom.at atom.Field.u33) (x .factors .u33)
-    ∷ factor (atom.at atom.Field.u12) (x .factors .u12)
-    ∷ factor (atom.at atom.Field.u13) (x .factors .u13)
-    ∷ factor (atom.at atom.Field.u23) (x .factors .u23)
-    ∷ []
-realsOf (item.Crystal x) =
-    real (crystal.at crystal.Field.a) (x .cell .a)
-    ∷ real (crystal.at crystal.Field.b) (x .cell .b)
-    ∷ real (crystal.at crystal.Field.c) (x .cell .c)
-    ∷ real (crystal.at crystal.Field.alpha) (x .cell .alpha)
-    ∷ real (crystal.at crystal.Field.beta) (x .cell .beta)
-    ∷ real (crystal.at crystal.Field.gamma) (x .cell .gamma)
-    ∷ []
-realsOf (item.Scale x) = rowReals (x .values)
-realsOf (item.OrigX x) = rowReals (x .values)
-realsOf (item.MtriX x) = rowReals (x .values)
-realsOf (item.Model x) = []
-realsOf (item.Master x) = []
-realsOf (item.Seqres x) = []
-realsOf (item.Dbref x) = []
-realsOf (item.Dbref1 x) = []
-realsOf (item.Dbref2 x) = []
-realsOf (item.Seqadv x) = []
-realsOf (item.Modres x) = []
-realsOf (item.SSBond x) = tailReals (x .tail)
-realsOf item.EndModel = []
-realsOf item.Ter = []
-realsOf item.End = []
+abbrev pub realsShown : List Row → List (ℕ × Float)
+realsShown [] = []
+realsShown (row ∷ rest) = realOfRow (row .0) (row .1) ++ realsShown rest
 
 -- ---- the faults that name columns
 -- a fault's place and length are the columns'
@@ -117,7 +88,7 @@ names at f = eqb (f .place) (at .start) && eqb (f .length) (at .end - at .start)
 -- how many do
 unfoldable pub namedBy : Columns → List Fault → ℕ
 namedBy at [] = 0
-namedBy at (f ∷ t) = cond (names at f) (suc (namedBy at t)) (namedBy at t)
+namedBy at (f ∷ fs) = cond (names at f) (suc (namedBy at fs)) (namedBy at fs)
 
 -- ---- the written number
 -- an integer in ten-thousandths; a written `-0` is the integer 0, which has no minus
@@ -127,8 +98,8 @@ inTenThousandths NotI = NotPlain
 
 -- what a text says, trimmed: its sign, M and p. No real field is wider than the ten bytes of a plain decimal
 abbrev pub saidBy : Form → List ℕ → Decimal
-saidBy Form.decimal t = decimalOf t
-saidBy Form.integer t = inTenThousandths (signedOf t)
+saidBy Form.decimal text = decimalOf text
+saidBy Form.integer text = inTenThousandths (signedOf text)
 
 -- the line reaches the field's last column, and the text there says M over 10 ^ p, with the sign s
 pub record Written (l : List ℕ) (f : RealField) (s : Bool) (m p : ℕ) : Type 0 where

@@ -3,8 +3,8 @@ ghost use mathlib.Core.Path.{_≡_};
 ghost use Rattle.line.specs.Options.{plain};
 ghost use Rattle.remark.specs.Remark as specs;
 use crate::record::Remark;
-use field::charge::known;
 use field::number_field::unsigned;
+use field::remark::known;
 use field::text_field::end_text_from;
 use line::fault::Faults;
 

@@ -1,4 +1,4 @@
-// What is printed for a line: its listing, or the rows of its refusal.
+// What is printed for a line: its listing, or the rows of its refusal; and, in `fill`, for the lines of a file.
 ghost use mathlib.Core.Path.{_≡_};
 ghost use lib.ListN.{length};
 ghost use Rattle.page.specs.Page.{page, put};
@@ -9,6 +9,8 @@ use listing::Listed;
 use listing::list_line;
 use page::put_bytes;
 use page::put_unsigned;
+
+pub mod fill;
 
 // The rows of a refusal.
 pub fn put_refused(out: &mut [u8], at: usize, number: usize, refusal: Refusal) -> usize

@@ -1,6 +1,7 @@
-// Answers over pipes what the four entries of `saltighedda` answer, for a host on a processor that can't call them. Standard input comes in
-// blocks of 15 requests of 4,096 bytes; for each block 15 replies of 4,192 bytes are written to standard output at once. The program ends
-// when the input ends or a write fails, and a block that isn't whole is not answered.
+// Answers over pipes what the four entries of `saltighedda` answer, for a host on a processor that can't call them, and what no entry says:
+// the sort of number that the columns of a fault 2 should have held. Standard input comes in blocks of 15 requests of 4,096 bytes; for each
+// block 15 replies of 4,200 bytes are written to standard output at once. The program ends when the input ends or a write fails, and a block
+// that isn't whole is not answered.
 //
 // Both begin with words of eight bytes, the lowest first:
 //
@@ -9,16 +10,27 @@
 //      8  the options, of which the low 32 bits count   8  saltighedda_list_refusal
 //     16  the length of the line                       16  saltighedda_list_place
 //     24  the length of the remark table               24  saltighedda_list_length
-//     32  the room                                     32  4,160 bytes of output
-//     40  the line, and directly behind it the table
+//     32  the room                                     32  the sorts of the faults that `lex_line` answered
+//     40  the line, and directly behind it the table   40  4,160 bytes of output
+//
+// A sort is 1 for unsigned, 2 for signed, 3 for real, and 0 for a fault that isn't a 2 or where there is none. There are at most sixteen
+// faults, and each has two bits of the word, the first fault the lowest; the upper half of the word is 0.
 //
 // The output is all 0xC5 before the calls, and as many of its bytes as there is room are lent to them. So the asker sees each byte as it
 // was left, also behind what was lent. If the line and the table don't fit into their request, or the room is over 4,096, nothing is
 // called: the reply's first word is 2^64-1, and all its other bytes are 0xC5.
 ghost use Prim.Native.Nat.{_+_, _≤_};
+ghost use mathlib.Core.Path.{_≡_};
 ghost use lib.ListN.{length};
+ghost use Rattle.saltighedda.specs.Face.{optionsOf};
+use lexer::lex_line;
+use lexitem::answer::Answer;
 use libc::STDIN_FILENO;
 use libc::STDOUT_FILENO;
+use line::fault::Fault;
+use line::fault::FaultKind;
+use line::fault::Sort;
+use line::options::Options;
 use saltighedda::saltighedda_list;
 use saltighedda::saltighedda_list_length;
 use saltighedda::saltighedda_list_place;
@@ -29,7 +41,7 @@ const REQUESTS: usize = 15;
 
 const REQUEST: usize = 4096;
 
-const REPLY: usize = 4192;
+const REPLY: usize = 4200;
 
 const BLOCK: usize = REQUESTS * REQUEST;
 
@@ -59,7 +71,9 @@ const PLACE: usize = 16;
 
 const LENGTH: usize = 24;
 
-const OUTPUT: usize = 32;
+const SORTS: usize = 32;
+
+const OUTPUT: usize = 40;
 
 // Every listing has room in so much. The output has 64 bytes more, which are never lent.
 const MOST_ROOM: usize = 4096;
@@ -73,6 +87,7 @@ struct Told {
     refusal: usize,
     place: usize,
     length: usize,
+    sorts: usize,
 }
 
 fn wide(byte: u8) -> usize {
@@ -111,33 +126,77 @@ fn mark(bytes: &mut [u8]) {
     }
 }
 
+// The options by their bits, as the entries take them.
+fn options_of(bits: u32) -> Options
+    ensures { λ r. ⌜ r ≡ optionsOf bits ⌝ }
+{
+    Options {
+        atoms: bits % 2 == 1,
+        loose: bits / 2 % 2 == 1,
+    }
+}
+
+fn sort_of(kind: FaultKind) -> usize {
+    let FaultKind::Wrong(sort) = kind else {
+        return 0;
+    };
+    match sort {
+        Sort::Unsigned => 1,
+        Sort::Signed => 2,
+        Sort::Real => 3,
+    }
+}
+
+// What fills the places without a fault names no sort either, so that nothing has to be counted.
+fn word_of(faults: [Fault; 16]) -> usize {
+    let mut n = 0;
+    let mut i = 16;
+    while 0 < i {
+        i -= 1;
+        let fault = faults[i];
+        let kind = fault.kind;
+        n = n << 2 | sort_of(kind);
+    }
+    n
+}
+
+fn sorts_of(line: &[u8], number: usize, options: u32, remarks: &[u8]) -> usize {
+    let answer: Answer = lex_line(line, number, options_of(options), remarks);
+    let faults = answer.faults;
+    let list = faults.list;
+    word_of(list)
+}
+
 // The three that mustn't write come first: what they wrote would show wherever nothing is listed.
 fn ask(line: &[u8], number: usize, options: u32, remarks: &[u8], out: &mut [u8]) -> Told {
     let refusal = saltighedda_list_refusal(line, number, options, remarks, out);
     let place = saltighedda_list_place(line, number, options, remarks, out);
     let length = saltighedda_list_length(line, number, options, remarks, out);
     let written = saltighedda_list(line, number, options, remarks, out);
+    let sorts = sorts_of(line, number, options, remarks);
     Told {
         written,
         refusal,
         place,
         length,
+        sorts,
     }
 }
 
 fn put_told(reply: &mut [u8], told: Told)
-    requires { ⌜ 32 ≤ length (now reply) ⌝ }
+    requires { ⌜ 40 ≤ length (now reply) ⌝ }
 {
     put_word(reply, WRITTEN, told.written);
     put_word(reply, REFUSAL, told.refusal);
     put_word(reply, PLACE, told.place);
     put_word(reply, LENGTH, told.length);
+    put_word(reply, SORTS, told.sorts);
 }
 
 // A reply says that nothing was called until something is. The lengths are tested before they are added, so no sum is too large.
 fn answer(request: &[u8], reply: &mut [u8])
     requires { ⌜ 4096 ≤ length (now request) ⌝ }
-    requires { ⌜ 4192 ≤ length (now reply) ⌝ }
+    requires { ⌜ 4200 ≤ length (now reply) ⌝ }
 {
     put_word(reply, WRITTEN, NOT_CALLED);
     let line = word(request, LINE_LENGTH);

@@ -6,7 +6,6 @@ mod input;
 mod output;
 
 pub use crate::output::print_file;
-pub use crate::output::print_line;
 
 // Lists standard input, or says on standard error why it can't. The space has one byte more than a file may have, so that a longer
 // input shows.

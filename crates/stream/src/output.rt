@@ -1,78 +1,61 @@
-// The reports of the lines of a file, in order, on standard output.
+// What there is to print for a file, on standard output.
 ghost use mathlib.Core.Path.{_≡_};
-ghost use Prim.Native.Nat.{_≤_};
+ghost use Prim.Native.Nat.{_+_, _≤_};
 ghost use lib.ListN.{length};
-ghost use Rattle.listing.specs.Listing.{longest};
-ghost use Rattle.page.specs.Page.{page, put};
-ghost use Rattle.report.specs.Report.{reportOf};
-ghost use Rattle.stream.specs.Listed.{inputOf};
+ghost use Rattle.stream.specs.Printed as specs;
 use libc::STDOUT_FILENO;
-use line::options::Options;
-use report::put_report;
-use walker::lines::Step;
-use walker::lines::line;
-use walker::step;
+use report::fill::put_reports;
 
 // The longest file that is listed.
 const MOST: usize = 65536;
 
-// Writes bytes, or says why it can't, and answers whether they were written.
-fn print(text: &[u8]) -> bool {
-    let is_written = io::write_all(STDOUT_FILENO, text);
-    if !is_written {
-        os::fail(b"pdblist: standard output");
+// How many bytes of what there is to print were handed over; or that one couldn't be written, for a reason that was told.
+pub enum Printed {
+    Upto(usize),
+    Failed,
+}
+
+// Writes bytes that stand behind `done` others in what there is to print for a file, or says why it can't. The file is there for the condition
+// alone.
+fn print_part(file: &[u8], done: usize, text: &[u8]) -> Printed
+    requires { ⌜ specs.StandsBehind (specs.printed (now file)) done (now text) ⌝ }
+    ensures { λ r. ⌜ specs.Reaches (done + length (now (text .entry))) r ⌝ }
+{
+    if io::write_all(STDOUT_FILENO, text) {
+        return Printed::Upto(done + text.len());
     }
-    is_written
+    os::fail(b"pdblist: standard output");
+    Printed::Failed
 }
 
-// A line's report at the front of lent bytes.
-fn put_line(text: &[u8], number: usize, out: &mut [u8]) -> usize
-    ensures { λ r. ⌜ page (now (out .exit)) r ≡ put (page (now (out .entry)) 0) (reportOf (length (now (out .entry))) (inputOf number (now (text .entry)))) ⌝ }
+// Prints the reports of a file's lines, as many at once as have room, the first line being line 1.
+fn print_reports(file: &[u8]) -> Printed
+    requires { ⌜ length (now file) ≤ specs.most ⌝ }
+    ensures { λ r. ⌜ specs.Reaches (length (specs.printed (now (file .entry)))) r ⌝ }
 {
-    let remarks = [1u8; 1000];
-    put_report(text, number, Options::PLAIN, &remarks, out)
-}
-
-// A line's report, in a space where the longest has room.
-fn report_in<'a>(text: &[u8], number: usize, space: &'a mut [u8]) -> &'a [u8]
-    requires { ⌜ length (now space) ≡ longest ⌝ }
-    ensures { λ r. ⌜ now r ≡ reportOf longest (inputOf number (now (text .entry))) ⌝ }
-{
-    let n = put_line(text, number, space);
-    let whole = &space[..];
-    &whole[..n]
-}
-
-// Prints a line's report.
-pub fn print_line(text: &[u8], number: usize) -> bool {
-    let mut space = [0u8; 4096];
-    print(report_in(text, number, &mut space))
-}
-
-// Prints the report of each line of a file, the first being line 1. There are no more lines than bytes.
-fn print_lines(file: &[u8])
-    requires { ⌜ length (now file) ≤ 65536 ⌝ }
-{
+    let mut space = io::large_buffer();
     let mut at = 0;
     let mut number = 1;
-    loop {
-        let Step::At { start, end, next } = step(file, at) else {
-            return;
+    let mut done = 0;
+    while at < file.len() {
+        let filled = put_reports(file, at, number, &mut space);
+        let n = filled.n;
+        let Printed::Upto(all) = print_part(file, done, &space[..n]) else {
+            return Printed::Failed;
         };
-        let text = line(file, start, end);
-        if !print_line(text, number) {
-            return;
-        }
-        at = next;
-        number += 1;
+        at = filled.at;
+        number = filled.number;
+        done = all;
     }
+    Printed::Upto(done)
 }
 
 // Prints what there is to print for a file.
-pub fn print_file(file: &[u8]) {
+pub fn print_file(file: &[u8]) -> Printed
+    ensures { λ r. ⌜ specs.Reaches (length (specs.printed (now (file .entry)))) r ⌝ }
+{
     if MOST < file.len() {
-        print(b"input=too-long\n");
-        return;
+        return print_part(file, 0, b"input=too-long\n");
     }
-    print_lines(file);
+    print_reports(file)
 }

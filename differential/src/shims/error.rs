@@ -1,5 +1,5 @@
 //! Stands in for the crate's `error`. An error keeps what the oracle asks for:
-//! its level, its short text, and the context's line number, place and length.
+//! its level, its two texts, and the context's line number, place and length.
 
 /// How bad an error is; lexer.rs uses these three levels.
 #[derive(Clone, Copy, Debug, PartialEq, Eq)]
@@ -28,17 +28,17 @@ impl Context {
 pub struct PDBError {
     pub level: ErrorLevel,
     pub title: &'static str,
+    pub text: String,
     pub context: Context,
 }
 
 impl PDBError {
-    /// The long text is dropped: 01 leaves message texts out.
     pub fn new(
         level: ErrorLevel,
         title: &'static str,
-        _text: impl AsRef<str>,
+        text: impl Into<String>,
         context: Context,
     ) -> Self {
-        PDBError { level, title, context }
+        PDBError { level, title, text: text.into(), context }
     }
 }

@@ -21,7 +21,7 @@ returns c =
     let s = c .before .before .before in
     let l = s .before .args .line .now in
     let atoms = s .before .args .atoms in
-    let long = lt-ltb 6 (length l) (c .before .before .if1 .taken) in
+    let long = lt-ltb 6 (length l) (omega arith) in
     let known = kind-by-front 6 (namesBy atoms) l (s .shared-slice-known .given) (omega arith) (names-six atoms) in
     rw (long, known, ← c .before .six .ensures) (c .named-by .ensures)
 
@@ -36,7 +36,7 @@ unfolding kindOf
 returns-2 c =
     let s = c .before .before .before .before in
     let l = s .before .args .line .now in
-    let short = le-ltb 6 (length l) (c .before .before .before .if1 .left) in
+    let short = le-ltb 6 (length l) (omega arith) in
     let long = lt-ltb 2 (length l) (c .before .before .if2 .taken) in
     let known = kind-by-front 3 shortNames l (s .shared-slice-known .given) (omega arith) tt in
     rw (short, long, known, ← c .before .three .ensures) (c .named-short .ensures)
@@ -45,7 +45,7 @@ returns-3 : tie.Need-returns-3
 unfolding kindOf
 returns-3 c =
     let l = c .before .before .before .args .line .now in
-    rw (le-ltb 6 (length l) (c .before .if1 .left), le-ltb 2 (length l) (c .if2 .left))
+    rw (le-ltb 6 (length l) (omega arith), le-ltb 2 (length l) (c .if2 .left))
 
 pub kind-of-spec : {M : Type 1} → statement M
 kind-of-spec =

@@ -1,6 +1,7 @@
 -- `lexer::accept` meets its contract: the test is that of `answerOf`.
 -- Assumes nothing.
 use mathlib.Core.Path.{refl, _∙_}
+use native.Mathlib.Omega.{arith}
 use borrow.Author.Tests.{lt-ltb, le-ltb}
 use Rattle.lexer.specs.Steps.{answerOf}
 use borrow.Author.Needs.{needs}
@@ -21,11 +22,13 @@ refuse-requires c κs = search needs
 
 returns : tie.Need-returns
 unfolding answerOf
-returns c = rw (lt-ltb 16 _ (c .before .before .before .before .before .if1 .taken)) (c .refuse .ensures ∙ rw (c .before .new .ensures) refl)
+returns c =
+    let n = c .before .before .before .before .before .before .before .before .args .got .faults .count in
+    rw (lt-ltb 16 n (omega arith)) (c .refuse .ensures ∙ rw (c .before .new .ensures) refl)
 
 returns-2 : tie.Need-returns-2
 unfolding answerOf
-returns-2 c = rw (le-ltb 16 _ (c .if1 .left)) refl
+returns-2 c = rw (le-ltb 16 (c .before .before .before .args .got .faults .count) (omega arith)) refl
 
 pub accept-spec : {M : Type 1} → statement M
 accept-spec =

@@ -19,7 +19,7 @@ use Rattle.seqadv.specs.declared.record.Target.the-variants.{NoResidue}
 use Rattle.line.specs.declared.text.Character.the-variants.{At, Unreached, Absent}
 use Rattle.line.specs.declared.text.Text.{Text}
 use Rattle.page.specs.Numerals.{decimalBefore, decimal, signedDecimal, hexDigit, hexBefore, hex16, plain, shown, escaped}
-use Rattle.kind.specs.Name.{rowOf}
+use Rattle.kind.specs.Kind.{rowOf}
 use Rattle.listing.specs.Each.{each}
 use Rattle.listing.specs.Listing.{numberRow, faultBytes, listingOf}
 use Rattle.listing.specs.Row.{rowBytes}

@@ -87,7 +87,7 @@ value-room l (One c) = character-most l c
 value-room l (Flag b) = lit≤ tt
 value-room l Nothing = lit≤ tt
 
-abbrev rowRoom : Row → ℕ
+abbrev pub rowRoom : Row → ℕ
 rowRoom r = 3 + length (decimal (r .0)) + roomOf (r .1)
 
 row-room : (l : List ℕ) (r : Row) → length (rowBytes l r) ≤ rowRoom r

@@ -2,6 +2,8 @@
 -- Assumes nothing.
 use mathlib.Core.Path.{sym, _∙_}
 use native.Mathlib.Omega.{arith}
+use lib.ListN.{take}
+use Rattle.listing.specs.Listing.{listingOf}
 use Rattle.listing.proofs.Laws.Fitted.{fitted-no, fitted-yes}
 use borrow.Author.Needs.{needs}
 use Rattle.listing.proofs.fit.Statement.{statement}
@@ -29,7 +31,9 @@ returns-2 : tie.Need-returns-2
 returns-2 c =
     let start = c .before .before .before .before .before .before .before .before .before in
     let room = start .good in
-    fitted-yes (start .args .out .now) _ (start .pre .1) _ (sym (c .before .before .before .before .enum-told .given .1) ∙ c .before .before .before .before .before .before .measure .ensures) _ _ (omega arith)
+    let a = start .args in
+    let listing = listingOf (a .number) (a .line .now) (a .item) (take (a .count) (a .faults)) in
+    fitted-yes (a .out .now) listing (start .pre .1) _ (sym (c .before .before .before .before .enum-told .given .1) ∙ c .before .before .before .before .before .before .measure .ensures) _ _ (omega arith)
     (c .before .before .put-listing .ensures)
 
 pub fit-spec : {M : Type 1} → statement M

@@ -20,12 +20,13 @@ use Rattle.number.proofs.Laws.Trim.{kept-le}
 use Rattle.line.specs.Faults.{blankFault}
 use Rattle.lexitem.specs.declared.answer.Refusal.{Refusal}
 use Rattle.kind.specs.declared.Kind.{Kind}
-use Rattle.kind.specs.declared.Kind.the-variants.{Empty, Header, Remark, Atom, Hetatm, Anisou, Cryst1, Scale, Origx, Mtrix, Model, Master, Dbref, Dbref1, Dbref2, Seqres, Seqadv, Modres, Ssbond, Endmdl, Ter, End}
+use Rattle.kind.specs.declared.Kind.the-variants.{Header, Remark}
 use Rattle.lexer.specs.Refusals.{Input, Test, kind, given, faults, plain, headerCut, remarkLong, missing, test, tests, seventeenth}
 use Rattle.lexitem.specs.Describe.{boundOf}
 use Rattle.lexitem.specs.Answer.{refusal}
 use Rattle.lexitem.specs.declared.bound.Bound.{Bound}
 use Rattle.lexitem.specs.declared.bound.Bound.the-variants as bound
+use Rattle.promises.proofs.Laws.Kinds.{Asks, asks, least-asked}
 use Rattle.promises.specs.Refusing.{Rule, FirstHigh, Least, Seventeenth, rules, tableRule, lengthRule, byteRule, headerRule, remarkRule, leastRule, faultRule}
 
 abbrev pub Agrees : Test → Rule → Type 0
@@ -93,36 +94,6 @@ byte-row i =
     )
 
 -- ---- rows 4 to 6, by what a kind asks of its line
-abbrev Asks : Kind → Bound → Type 0
-Asks k bound.Header = k ≡ Header
-Asks k bound.Remark = k ≡ Remark
-Asks k (bound.Least n) = Least k n
-Asks k bound.Free = Unit {0}
-
-asks : (k : Kind) → Asks k (boundOf k)
-asks Empty = tt
-asks Header = refl
-asks Remark = refl
-asks Atom = tt
-asks Hetatm = tt
-asks Anisou = tt
-asks Cryst1 = Least.cryst1
-asks (Scale n) = tt
-asks (Origx n) = tt
-asks (Mtrix n) = tt
-asks Model = tt
-asks Master = tt
-asks Dbref = tt
-asks Dbref1 = tt
-asks Dbref2 = tt
-asks Seqres = tt
-asks Seqadv = Least.seqadv
-asks Modres = Least.modres
-asks Ssbond = Least.ssbond
-asks Endmdl = tt
-asks Ter = tt
-asks End = tt
-
 false-is : {A : Type 0} → false ≡ true → A
 false-is e = absurd (clash {b = false} e refl)
 
@@ -164,12 +135,6 @@ module _ (k : Kind) (l : List ℕ) where
   short-least bound.Remark a e = false-is e
   short-least (bound.Least n) a e = let h = ltb-true 0 (n - length l) e in (n, a, omega arith, refl)
   short-least bound.Free a e = false-is e
-
-least-asked : {k : Kind} {n : ℕ} → Least k n → boundOf k ≡ bound.Least n
-least-asked Least.cryst1 = refl
-least-asked Least.modres = refl
-least-asked Least.seqadv = refl
-least-asked Least.ssbond = refl
 
 module _ (i : Input) where
   header-row : Agrees (test (headerCut (boundOf (kind i)) (i .line)) 4 11 (length (i .line) - 11)) (headerRule i)

@@ -1,6 +1,7 @@
 -- "P1 to P12 are one list of cases with a single theorem about it": every claim of every case is found, each by computing the answer.
 --     edges-found       P1 to P12
---     defaults-found    a case for each default
+--     defaults-found    a case for each default, with the sort of each number field
+--     readings-found    triples, a residue of the database, trimming
 -- One line of a proof is one case, in the list's order, so that a failure names its case. Assumes nothing.
 use mathlib.Core.Path.{refl}
 use lib.Ieee.{div, neg, ofInt, ofBits}
@@ -13,7 +14,8 @@ use Rattle.line.specs.Columns.{partOf, reachedOf, restOf}
 use Rattle.line.specs.Faults.{noFaults, noted, listed}
 use Rattle.field.specs.Number.{numberFaults, unsignedAt, signedAt, realAt, factorAt, unsignedFrom, unsignedFromFaults}
 use Rattle.field.specs.Text.{textAt, textFaults, textWithin, textFrom, endTextFrom, characterAt, optionalAt, characterFaults}
-use Rattle.field.specs.Charge.{bothBlank, charged, chargeOf, chargeFaultsOf, chargeAt, chargeFaults, isKnown, knownFaults}
+use Rattle.field.specs.Charge.{bothBlank, charged, chargeOf, chargeFaultsOf, chargeAt, chargeFaults}
+use Rattle.field.specs.Remark.{isKnown, knownFaults}
 use Rattle.seqadv.specs.Seqadv.{blanks, hasTarget}
 use Rattle.seqres.specs.Seqres.{blankTriple, triplesFrom}
 use Rattle.kind.specs.Kind.{kindOf}
@@ -21,7 +23,7 @@ use Rattle.lexitem.specs.Describe.{faultsOf}
 use Rattle.lexer.specs.Refusals.{plain}
 use Rattle.lexer.specs.Lexed.{lexed}
 use Rattle.promises.specs.Edges.{CasesFound, edges}
-use Rattle.promises.specs.Defaults.{defaults}
+use Rattle.promises.specs.Defaults.{defaults, readings}
 
 -- all that an answer computes through, from the numbers up
 unfoldable opened : Unit {0}
@@ -86,7 +88,7 @@ defaults-found =
     -- ATOM, HETATM, ANISOU
     (refl & refl & tt)
     & (refl & tt)
-    & ((_, refl, refl) & tt)
+    & ((_, refl, refl) & refl & tt)
     & (refl & refl & tt)
     & (refl & tt)
     -- CRYST1
@@ -95,13 +97,16 @@ defaults-found =
     & (refl & refl & tt)
     & (refl & refl & tt)
     & (refl & refl & tt)
+    & (refl & refl & tt)
     & ((_, refl, refl) & tt)
     -- MASTER, SEQRES
     & (refl & refl & tt)
     & (refl & refl & tt)
+    & (refl & tt)
     -- DBREF, DBREF1, DBREF2
     & (refl & refl & tt)
     & (refl & refl & tt)
+    & (refl & tt)
     & (refl & refl & tt)
     -- SEQADV, MODRES
     & (refl & refl & tt)
@@ -115,6 +120,24 @@ defaults-found =
     & (refl & refl & tt)
     & (refl & refl & tt)
     & (refl & refl & tt)
+    & (refl & refl & tt)
+    & tt
+
+pub readings-found : CasesFound readings
+unfolding opened
+readings-found =
+    -- triples
+    ((_, refl, refl) & refl & tt)
+    & ((_, refl, refl) & refl & tt)
+    & ((_, refl, refl) & refl & tt)
+    -- a residue of the database
+    & (refl & refl & tt)
+    & (refl & refl & tt)
+    & (refl & refl & tt)
+    & (refl & refl & tt)
+    -- a text's ends
+    & ((_, refl, refl) & refl & tt)
+    & ((_, refl, refl) & tt)
     -- trim
     & ((_, refl, refl) & refl & tt)
     & ((_, refl, refl) & refl & tt)

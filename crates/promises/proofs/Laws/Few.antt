@@ -17,14 +17,15 @@ use lib.Dec.{lit≤, ltb}
 use Rattle.number.specs.Whole.{digit, unsignedOf}
 use Rattle.field.specs.Number.{isU, faultAt, shortAt, wrongAt, numberFaults, unsignedAt, restColumns, unsignedFromFaults}
 use Rattle.field.specs.Text.{unreached, textFaults, characterFaults}
-use Rattle.field.specs.Charge.{isSign, charged, chargeFaults, chargeFaultsOf, isKnown, knownFaults}
+use Rattle.field.specs.Charge.{isSign, charged, chargeFaults, chargeFaultsOf}
+use Rattle.field.specs.Remark.{isKnown, knownFaults}
 use Rattle.line.specs.Given.{Given}
 use Rattle.field.specs.Table.{Entry, faultsBy, tableFaults}
 use Rattle.kind.specs.declared.Kind.{Kind}
-use Rattle.kind.specs.declared.Kind.the-variants.{Empty, Header, Remark, Atom, Hetatm, Anisou, Cryst1, Scale, Origx, Mtrix, Model, Master, Dbref, Dbref1, Dbref2, Seqres, Seqadv, Modres, Ssbond, Endmdl, Ter, End}
 use Rattle.lexitem.specs.Describe.{tableOf, describe, faultsOf}
 use Rattle.lexer.specs.Lexed.{lexed}
 use Rattle.lexer.specs.Refusals.{Input, kind, given}
+use Rattle.promises.proofs.Laws.Kinds.{table-sixteen}
 use Rattle.line.specs.Columns.{partOf, restOf}
 use Rattle.line.specs.declared.columns.Columns.{Columns}
 use Rattle.lexitem.specs.declared.answer.Outcome.the-variants.{Refused}
@@ -84,33 +85,6 @@ entry-one g (Entry.triples start) = lit≤ tt
 pub table-most : (g : Given) (es : List Entry) → length (tableFaults g es) ≤ length es
 table-most g [] = lit≤ tt
 table-most g (e ∷ es) = omega (arith, length-append (faultsBy g e) (tableFaults g es), entry-one g e, table-most g es)
-
--- ---- sixteen fields a kind
-pub table-sixteen : (k : Kind) (part : Bool) → length (tableOf k part) ≤ 16
-table-sixteen Empty part = lit≤ tt
-table-sixteen Header part = lit≤ tt
-table-sixteen Remark part = lit≤ tt
-table-sixteen Atom part = lit≤ tt
-table-sixteen Hetatm part = lit≤ tt
-table-sixteen Anisou part = lit≤ tt
-table-sixteen Cryst1 part = lit≤ tt
-table-sixteen (Scale row) part = lit≤ tt
-table-sixteen (Origx row) part = lit≤ tt
-table-sixteen (Mtrix row) part = lit≤ tt
-table-sixteen Model part = lit≤ tt
-table-sixteen Master part = lit≤ tt
-table-sixteen Dbref part = lit≤ tt
-table-sixteen Dbref1 part = lit≤ tt
-table-sixteen Dbref2 part = lit≤ tt
-table-sixteen Seqres part = lit≤ tt
-table-sixteen Seqadv true = lit≤ tt
-table-sixteen Seqadv false = lit≤ tt
-table-sixteen Modres part = lit≤ tt
-table-sixteen Ssbond true = lit≤ tt
-table-sixteen Ssbond false = lit≤ tt
-table-sixteen Endmdl part = lit≤ tt
-table-sixteen Ter part = lit≤ tt
-table-sixteen End part = lit≤ tt
 
 pub faults-sixteen : (k : Kind) (g : Given) → length (faultsOf k g) ≤ 16
 unfolding faultsOf

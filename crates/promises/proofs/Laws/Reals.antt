@@ -2,53 +2,51 @@
 --     demand-3              every real field of an accepted record keeps its promise
 --     written-or-not        a field's number is written or not, so that one half of the promise speaks (in RealsField)
 --     unfaulted-written     where no fault names the columns, a number is written
---     demand-3-tells        equal doubles of two written fields say the same number, with the same sign; the columns needn't be the same
+--     demand-3-tells        two written fields whose doubles have the same bits say the same number, with the same sign; the columns needn't
+--                           be the same
 --     real-finite           every real of an accepted record is finite, also a default
---     reals-all             the real fields of an accepted record are the real entries of its kind's table: none is left out
 -- Assumes nothing.
 use Prim.Native.Nat.{ℕ, _*_, _^_}
-use mathlib.Core.Path.{_≡_, ap}
+use mathlib.Core.Path.{_≡_, sym, ap, _∙_}
 use mathlib.Core.Logic.{⊎-elim}
 use mathlib.Core.Bool.{Bool}
-use mathlib.Core.List.{List, map, List·Memᴰ}
+use mathlib.Core.List.{List, List·Memᴰ}
 use native.Mathlib.Omega.{arith}
 use lib.Dec.{T}
+use lib.Ieee.{binary64, toBits, ofBits}
 use lib.Ieee.Scale.{finite}
+use lib.Ieee.Bits.{ofBits-toBits}
 use Rattle.number.proofs.Laws.Tells.{near-tells, near-finite}
 use Rattle.line.specs.Faults.{listed}
 use Rattle.lexitem.specs.declared.answer.Outcome.the-variants.{Accepted}
 use Rattle.lexitem.specs.declared.item.LexItem.{LexItem}
 use Rattle.field.specs.Table.{Entry, tableFaults}
-use Rattle.lexitem.specs.Describe.{fieldsBy, itemOf, faultsOf}
+use Rattle.lexitem.specs.Describe.{describe, fieldsBy, faultsOf}
 use Rattle.lexer.specs.Refusals.{Input, kind, given}
 use Rattle.lexer.specs.Lexed.{lexed}
-use Rattle.lexer.proofs.Laws.Accepted.{accepted-item, accepted-faults}
-use Rattle.promises.specs.Reals.{RealField, realsOf, namedBy, Written, Filled, Kept}
-use Rattle.promises.proofs.Laws.RealsNamed.{chosen}
-use Rattle.promises.proofs.Laws.RealsTable.{entryOf, readIn, Look, looked, due, looks-due, isReal, reals-stand}
+use Rattle.lexer.proofs.Laws.Accepted.{accepted-faults}
+use Rattle.promises.specs.Reals.{RealField, realsBy, namedBy, Written, Filled, Kept}
+use Rattle.promises.proofs.Laws.RealsTable.{readIn, Look, looked, due, clear-looks}
+use Rattle.promises.proofs.Laws.Kinds.{table-clear}
 use Rattle.promises.proofs.Laws.RealsField.{Told, field-told, written-or-not, field-kept}
 
 -- the table of a line's fields
 abbrev pub tableIn : Input → List Entry
 tableIn i = fieldsBy (kind i) (i .line)
 
+-- its real fields
+abbrev pub realsIn : Input → List RealField
+realsIn i = realsBy (given i) (tableIn i)
+
 module _ (i : Input) where
   module _ (x : LexItem) (yes : lexed i .outcome ≡ Accepted x) where
-    line-item : x ≡ itemOf (kind i) (given i)
-    line-item = accepted-item i x yes
-
     line-faults : listed (lexed i .faults) ≡ tableFaults (given i) (tableIn i)
     unfolding faultsOf
     line-faults = accepted-faults i x yes
 
-    pub reals-all : map entryOf (realsOf x) ≡ chosen isReal (tableIn i)
-    reals-all = rw line-item (reals-stand (given i) (kind i) .0)
-
-    module _ (f : RealField) (of : List·Memᴰ f (realsOf x)) where
+    module _ (f : RealField) (of : List·Memᴰ f (realsIn i)) where
       line-look : looked (tableIn i) f ≡ due (i .line) f
-      line-look =
-          let stand = reals-stand (given i) (kind i) in
-          looks-due (tableIn i) (i .line) (realsOf (itemOf (kind i) (given i))) (stand .1) f (rw line-item at of)
+      line-look = clear-looks (given i) (tableIn i) (table-clear (kind i) (describe (kind i) .part (i .line))) f of
 
       line-told : (s : Bool) (m p : ℕ) → Written (i .line) f s m p → Told s m p (readIn (i .line) f) (f .value)
       line-told = field-told (given i) (tableIn i) f line-look
@@ -68,10 +66,12 @@ module _ (i : Input) where
           (written-or-not (i .line) f)
 
 pub demand-3-tells : (i j : Input) (x y : LexItem) → lexed i .outcome ≡ Accepted x → lexed j .outcome ≡ Accepted y
-    → (f g : RealField) → List·Memᴰ f (realsOf x) → List·Memᴰ g (realsOf y)
+    → (f g : RealField) → List·Memᴰ f (realsIn i) → List·Memᴰ g (realsIn j)
     → (s t : Bool) (m n p q : ℕ) → Written (i .line) f s m p → Written (j .line) g t n q
-    → f .value ≡ g .value → (s ≡ t) × (m * 10 ^ q ≡ n * 10 ^ p)
+    → toBits binary64 (f .value) ≡ toBits binary64 (g .value) → (s ≡ t) × (m * 10 ^ q ≡ n * 10 ^ p)
 demand-3-tells i j x y accepts acceptsToo f g of ofToo s t m n p q v w same =
     let a = line-told i x accepts f of s m p v in
     let b = line-told j y acceptsToo g ofToo t n q w in
-    near-tells s t m n p q (f .value) (a .near) (rw (← same) at (b .near)) (a .few) (b .few)
+    let equal : f .value ≡ g .value =
+    sym (ofBits-toBits binary64 (f .value) (a .held)) ∙ ap (ofBits binary64) same ∙ ofBits-toBits binary64 (g .value) (b .held) in
+    near-tells s t m n p q (f .value) (a .near) (rw (← equal) at (b .near)) (a .few) (b .few)

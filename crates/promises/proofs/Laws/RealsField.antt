@@ -1,6 +1,6 @@
 -- A real field keeps its promise where it looks as is due: its entry gives a fault exactly where no number is written, and a written number has
 -- a double near it.
---     Told, field-told     a written number is below 10 ^ 10, and the field's double is near it
+--     Told, field-told     a written number is below 10 ^ 10, and the field's double is near it and one that 64 bits hold
 --     written-or-not       a number is written in the field's columns, or none is
 --     field-kept           the promise, over the faults of the field's table
 -- Assumes nothing.
@@ -12,11 +12,12 @@ use mathlib.Core.List.{List, [], _∷_, _++_}
 use native.Mathlib.Omega.{arith}
 use borrow.Author.Tests.{le-ltb, ltb-true, ltb-false, leb-true}
 use lib.ListN.{length, take, drop, length-take}
-use lib.Dec.{leb, ltb}
-use lib.IntN.{natAbs}
-use lib.Ieee.{Float}
+use lib.Dec.{T, leb, ltb}
+use lib.IntN.{ℤ, pos, natAbs}
+use lib.Ieee.{Float, binary64, fits, div, ofInt}
+use lib.Ieee.Fits.{div-fits, neg-fits}
 use Rattle.number.specs.Whole.{signedOf}
-use Rattle.number.specs.Double.{doubleOf}
+use Rattle.number.specs.Double.{signPut, doubleOf}
 use Rattle.number.specs.Near.{Near}
 use Rattle.number.specs.Real.{tenThousandthsFrom, tenThousandthsOf, tenThousandth}
 use Rattle.number.specs.Sign.{below}
@@ -50,17 +51,33 @@ part-width l at = go (ltb (length l) (at .end))
     go true = omega arith
     go false = simp length-take (omega arith)
 
--- a text is read as the double x, near the written number, which is below 10 ^ 10
+-- a quotient of doubles is one that 64 bits hold, with its sign put on too
+double-held : (s : Bool) (m p : ℕ) → T (fits binary64 (doubleOf s m p))
+unfolding doubleOf
+double-held s m p = put s _ (div-fits binary64 (ofInt binary64 (pos m)) (ofInt binary64 (pos (10 ^ p))))
+  where
+    put : (s : Bool) (x : Float) → T (fits binary64 x) → T (fits binary64 (signPut s x))
+    put false x h = h
+    put true x h = neg-fits binary64 x h
+
+tenth-held : (z : ℤ) → T (fits binary64 (tenThousandth z))
+unfolding tenThousandth
+tenth-held z = div-fits binary64 (ofInt binary64 z) (ofInt binary64 (pos 10000))
+
+-- a text is read as the double x, held by 64 bits, near the written number, which is below 10 ^ 10
 pub record Told (s : Bool) (m p : ℕ) (text : Real) (x : Float) : Type 0 where
   pub is : text ≡ R x
   pub near : Near s m p x
+  pub held : T (fits binary64 x)
   pub few : m < 10 ^ 10
 
 told : (form : Form) (l : List ℕ) (at : Columns) (s : Bool) (m p : ℕ) → narrow form at ≡ true
     → saidBy form (partOf l at) ≡ Plain s m p → (x : Float) × Told s m p (readAs form (partOf l at)) x
 told Form.decimal l at s m p w e =
-    let text = partOf l at in
-    (doubleOf s m p, record { is = real-is text e; near = decimal-near text e; few = decimal-limits text e .0 })
+    let text = partOf l at in (
+      doubleOf s m p,
+      record { is = real-is text e; near = decimal-near text e; held = double-held s m p; few = decimal-limits text e .0 },
+    )
 told Form.integer l at s m p w e = go (signedOf text) refl e
   where
     text : List ℕ
@@ -78,6 +95,7 @@ told Form.integer l at s m p w e = go (signedOf text) refl e
           record {
             is = is;
             near = rw (sign, size, places) at near;
+            held = tenth-held z;
             few = rw size at (signed-within text said 10 (omega arith));
           },
         )

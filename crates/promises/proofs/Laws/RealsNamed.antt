@@ -22,7 +22,8 @@ use Rattle.line.specs.declared.fault.Sort.{Sort}
 use Rattle.line.specs.declared.fault.Sort.the-variants.{Unsigned as USort, Signed as ISort, Real as RSort}
 use Rattle.field.specs.Number.{numberFaults, unsignedFromFaults, unsignedAt, isU, isI, isR, faultAt, shortAt, wrongAt, restColumns}
 use Rattle.field.specs.Text.{textFaults, characterFaults}
-use Rattle.field.specs.Charge.{charged, isSign, chargeFaults, chargeFaultsOf, isKnown, knownFaults}
+use Rattle.field.specs.Charge.{charged, isSign, chargeFaults, chargeFaultsOf}
+use Rattle.field.specs.Remark.{isKnown, knownFaults}
 use Rattle.line.specs.Given.{Given}
 use Rattle.field.specs.Table.{Entry, faultsBy, tableFaults}
 use Rattle.field.specs.Table.Entry.{u, i, r, t, c, c?, a, u-rest, x, t-within, t-rest, t-end, charge, known, given, unwritten, triples}

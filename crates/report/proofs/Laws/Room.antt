@@ -2,7 +2,8 @@
 --     refused-most      the rows of a refusal have at most 112 bytes
 --     report-whole      in 4,096 bytes a line's report is its listing, or the rows of its own refusal
 --     report-room       and has room there
---     report-front      so what was put on 4,096 lent bytes is the report
+--     report-within     so what was put on 4,096 lent bytes has room
+--     report-front      and is the report
 --     report-size       and has as many bytes as were counted
 -- Assumes nothing.
 use Prim.Native.Nat.{ℕ, _≤_}
@@ -63,6 +64,9 @@ module _ (i : Input) (before after : List ℕ) (n : ℕ) (many : length before �
       let room = report-room i in
       let f = rw many at e in
       ap (λ (p : Page). p .at) f ∙ put-count before (reportOf longest i) (omega arith)
+
+  pub report-within : n ≤ length before
+  report-within = let room = report-room i in omega (arith, counted)
 
   pub report-front : take n after ≡ reportOf longest i
   report-front =

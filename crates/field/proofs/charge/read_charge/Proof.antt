@@ -19,7 +19,7 @@ returns c = rw (digit-low _ (c .if1 .taken)) refl
 
 returns-2 : tie.Need-returns-2
 unfolding chargeOf
-returns-2 c = rw (digit-high _ (c .if2 .taken)) refl
+returns-2 c = rw (digit-high (c .before .before .args .digit) (omega arith)) refl
 
 cast-size : tie.Need-cast-size
 cast-size c = search needs
@@ -28,7 +28,7 @@ returns-3 : tie.Need-returns-3
 unfolding chargeOf
 returns-3 c =
     let d = c .before .before .before .args .digit in
-    rw (toZ-pos w64 {n = d - 48} (omega arith), digit-yes d (c .before .before .if1 .left) (c .before .if2 .left), c .if3 .taken) refl
+    rw (toZ-pos w64 {n = d - 48} (omega arith), digit-yes d (c .before .before .if1 .left) (omega arith), c .if3 .taken) refl
 
 sub-t6 : tie.Need-sub-t6
 sub-t6 c =
@@ -39,14 +39,14 @@ returns-4 : tie.Need-returns-4
 unfolding chargeOf
 returns-4 c =
     let d = c .before .before .before .before .args .digit in
-    rw (minus-is (d - 48) (omega arith), toZ-ofZ (minus-fits (d - 48) (omega arith)), digit-yes d (c .before .before .before .if1 .left) (c .before .before .if2 .left), c .if4 .taken) refl
+    rw (minus-is (d - 48) (omega arith), toZ-ofZ (minus-fits (d - 48) (omega arith)), digit-yes d (c .before .before .before .if1 .left) (omega arith), c .if4 .taken) refl
 
 returns-5 : tie.Need-returns-5
 unfolding chargeOf
 returns-5 c =
     let d = c .before .before .before .before .args .digit in
     let s = c .before .before .before .before .args .sign in
-    rw (digit-yes d (c .before .before .before .if1 .left) (c .before .before .if2 .left), ne-eqb s 43 (c .before .if3 .left), ne-eqb s 45 (c .if4 .left)) refl
+    rw (digit-yes d (c .before .before .before .if1 .left) (omega arith), ne-eqb s 43 (c .before .if3 .left), ne-eqb s 45 (c .if4 .left)) refl
 
 pub read-charge-spec : {M : Type 1} → statement M
 read-charge-spec =

@@ -1,5 +1,6 @@
 -- `line::text::view` meets its contract: each arm of its two matches is a clause of `viewOf`.
 -- Assumes nothing.
+use mathlib.Core.Path.{refl}
 use borrow.Author.Needs.{needs}
 use Rattle.line.proofs.text.view.Statement.{statement}
 use Rattle.line.proofs.text.view.Tie as tie
@@ -35,10 +36,10 @@ returns-2 : tie.Need-returns-2
 returns-2 c = rw (c .before .before .before .before .before .field2 .given .1, c .before .before .character .given .1) (c .within2 .ensures)
 
 returns-3 : tie.Need-returns-3
-returns-3 c = search needs
+returns-3 c = rw (c .before .before .before .field2 .given .1, c .enum-told .given .1) refl
 
 returns-4 : tie.Need-returns-4
-returns-4 c = search needs
+returns-4 c = rw (c .before .before .before .before .field2 .given .1, c .before .enum-told2 .given .1) refl
 
 pub view-spec : {M : Type 1} → statement M
 view-spec =

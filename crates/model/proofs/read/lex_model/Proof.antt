@@ -1,4 +1,4 @@
--- `records::master::lex_model` meets its contract: each value is its reader's, and the faults go on in the order of the table.
+-- `model::read::lex_model` meets its contract: each value is its reader's, and the faults go on in the order of the table.
 -- Assumes nothing.
 use borrow.Author.Needs.{needs}
 use Rattle.model.proofs.read.lex_model.Statement.{statement}

@@ -1,4 +1,4 @@
--- `records::seqadv::lex_modres` meets its contract: each value is its reader's, and the faults go on in the order of the table.
+-- `modres::read::lex_modres` meets its contract: each value is its reader's, and the faults go on in the order of the table.
 -- Assumes nothing.
 use Rattle.field.proofs.Laws.Fields.{signed-held}
 use borrow.Author.Needs.{needs}

@@ -28,7 +28,7 @@ returns-3 c =
 returns-4 : tie.Need-returns-4
 returns-4 c =
     let b = c .before .before .before in
-    plain-point _ _ _ (b .before .read-run .ensures) (b .if1 .left) (c .before .if3 .left) (c .if4 .taken)
+    plain-point _ _ _ (b .before .read-run .ensures) (b .if1 .left) (c .before .if3 .left) (omega arith)
 
 add-rest : tie.Need-add-rest
 add-rest c = search needs

@@ -50,7 +50,7 @@ returns-2 : tie.Need-returns-2
 returns-2 c =
     let f = c .before .before .read-front in
     rw (c .with-digits .ensures)
-    (eight-said (c .before .before .before .before .before .before .before .before .before .before .before .args .text .now) (f .result) (c .before .before .before .before .before .before .before .before .before .if1 .taken) (c .before .before .before .before .before .before .before .if2 .left) (f .ensures))
+    (eight-said (c .before .before .before .before .before .before .before .before .before .before .before .args .text .now) (f .result) (c .before .before .before .before .before .before .before .before .before .if1 .taken) (omega arith) (f .ensures))
 
 shared-slice-read-if4 : tie.Need-shared-slice-read-if4
 shared-slice-read-if4 c = search needs

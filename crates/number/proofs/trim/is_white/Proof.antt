@@ -1,5 +1,6 @@
 -- `number::trim::is_white` meets its contract: at each return the tests that led there are those of `white`.
 -- Assumes nothing.
+use mathlib.Core.Path.{refl}
 use borrow.Author.Tests.{eq-eqb, ne-eqb, lt-leb, le-leb}
 use Rattle.number.specs.Trim.{white}
 use Rattle.number.proofs.trim.is_white.Statement.{statement}
@@ -15,7 +16,7 @@ returns-2 c = simp (ne-eqb _ _ (c .before .if1 .left), lt-leb _ _ (c .if2 .taken
 
 returns-3 : tie.Need-returns-3
 unfolding white
-returns-3 c = simp (ne-eqb _ _ (c .before .if1 .left), le-leb _ _ (c .if2 .left))
+returns-3 c = simp (ne-eqb _ _ (c .before .if1 .left), le-leb _ _ (c .if2 .left)) refl
 
 pub is-white-spec : {M : Type 1} → statement M
 is-white-spec = tie.close (tie.spec returns returns-2 returns-3)

@@ -47,7 +47,7 @@ returns-3 : tie.Need-returns-3 Inv-loop μ-loop
 returns-3 c =
     let t = c .before .before .before .before .before .before .args .text .now in
     let l = c .before .before .before .before .before .loop in
-    let stop = joins-full (l .value) (getD t (l .i) 0) (c .if3 .taken) in
+    let stop = joins-full (l .value) (getD t (l .i) 0) (omega arith) in
     sym (run-stops t (l .value) (l .i) (c .before .before .before .before .loop-test .taken) stop) ∙ l .inv .2
 
 mul-value : tie.Need-mul-value Inv-loop μ-loop
@@ -66,7 +66,7 @@ loop-again : tie.Need-loop-again Inv-loop μ-loop
 loop-again c =
     let t = c .before .before .before .before .before .before .args .text .now in
     let l = c .before .before .before .before .before .loop in
-    let j = joins-on (l .value) (getD t (l .i) 0) (c .before .before .if1 .left) (c .before .if2 .left) (c .if3 .left) in
+    let j = joins-on (l .value) (getD t (l .i) 0) (c .before .before .if1 .left) (c .before .if2 .left) (omega arith) in
     let on = run-joins t (l .value) (l .i) (c .before .before .before .before .loop-test .taken) j in
     (search needs, omega arith, sym on ∙ l .inv .2)
 

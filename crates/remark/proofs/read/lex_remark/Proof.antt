@@ -1,4 +1,4 @@
--- `records::header::lex_remark` meets its contract: each value is its reader's, and the faults go on in the order of the table.
+-- `remark::read::lex_remark` meets its contract: each value is its reader's, and the faults go on in the order of the table.
 -- Assumes nothing.
 use borrow.Author.Needs.{needs}
 use Rattle.remark.proofs.read.lex_remark.Statement.{statement}

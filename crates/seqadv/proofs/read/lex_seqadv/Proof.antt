@@ -1,4 +1,4 @@
--- `records::seqadv::lex_seqadv` meets its contract: each value is its reader's, and the faults go on in the order of the table.
+-- `seqadv::read::lex_seqadv` meets its contract: each value is its reader's, and the faults go on in the order of the table.
 -- Assumes nothing.
 use denote.Ref.{now}
 use Rattle.field.proofs.Laws.Fields.{signed-held}

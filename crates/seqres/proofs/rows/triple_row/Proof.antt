@@ -1,4 +1,4 @@
--- `rows::seqres::triple_row` meets its contract: the test is that of `tripleRow`, and below thirteen a triple lies where `tripleOf` says.
+-- `seqres::rows::triple_row` meets its contract: the test is that of `tripleRow`, and below thirteen a triple lies where `tripleOf` says.
 -- Assumes nothing.
 use mathlib.Core.Path.{refl}
 use native.Mathlib.Omega.{arith}

@@ -22,7 +22,10 @@ slice-aggregate-result c = search needs
 
 returns : tie.Need-returns
 unfolding partOf
-returns c = simp (lt-ltb _ _ (c .before .if1 .taken))
+returns c =
+    let a = c .before .before .before .before .args .self in
+    let l = c .before .before .before .before .args .line .now in
+    rw (lt-ltb (length l) (a .end) (omega arith)) refl
 
 slice-aggregate-result-2 : tie.Need-slice-aggregate-result-2
 slice-aggregate-result-2 c = search needs
@@ -33,7 +36,7 @@ returns-2 c =
     let a = c .before .before .before .before .before .args .self in
     let l = c .before .before .before .before .before .args .line .now in
     let z : a .end - a .start ≡ 0 = omega arith in
-    rw (le-ltb (length l) (a .end) (c .before .before .if1 .left), z) refl
+    rw (le-ltb (length l) (a .end) (omega arith), z) refl
 
 part-result-start : tie.Need-part-result-start
 part-result-start c = search needs
@@ -46,7 +49,7 @@ unfolding partOf
 returns-3 c =
     let a = c .before .before .before .before .before .args .self in
     let l = c .before .before .before .before .before .args .line .now in
-    rw (le-ltb (length l) (a .end) (c .before .before .if1 .left)) refl
+    rw (le-ltb (length l) (a .end) (omega arith)) refl
 
 pub part-spec : {M : Type 1} → statement M
 part-spec =

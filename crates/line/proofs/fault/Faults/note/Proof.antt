@@ -1,5 +1,6 @@
 -- `line::fault::Faults::note` meets its contract: the tests are those of `noted`.
 -- Assumes nothing.
+use native.Mathlib.Omega.{arith}
 use borrow.Author.Tests.{lt-ltb, le-ltb, eq-eqb, ne-eqb}
 use Rattle.line.specs.Faults.{noted}
 use borrow.Author.Needs.{needs}
@@ -17,15 +18,15 @@ add-faults c = search needs
 
 returns : tie.Need-returns
 unfolding noted
-returns c = simp (lt-ltb _ _ (c .if1 .taken))
+returns c = simp (lt-ltb (c .before .args .self .count) 16 (omega arith))
 
 returns-2 : tie.Need-returns-2
 unfolding noted
-returns-2 c = simp (le-ltb _ _ (c .before .if1 .left), eq-eqb _ _ (c .if2 .taken))
+returns-2 c = simp (le-ltb (c .before .before .args .self .count) 16 (omega arith), eq-eqb _ _ (c .if2 .taken))
 
 returns-3 : tie.Need-returns-3
 unfolding noted
-returns-3 c = simp (le-ltb _ _ (c .before .if1 .left), ne-eqb _ _ (c .if2 .left))
+returns-3 c = simp (le-ltb (c .before .before .args .self .count) 16 (omega arith), ne-eqb _ _ (c .if2 .left))
 
 pub note-spec : {M : Type 1} → statement M
 note-spec =

@@ -1,4 +1,4 @@
--- `lexitem::seqres::Seqres::triple` meets its contract: the tests are those of `tripleOf`.
+-- `seqres::record::Seqres::triple` meets its contract: the tests are those of `tripleOf`.
 -- Assumes nothing.
 use mathlib.Core.Path.{refl, _∙_}
 use borrow.Author.Tests.{lt-ltb, le-ltb}

@@ -1,0 +1,2 @@
+-- What the definitions give at their edges.
+pub mod Cases
