@@ -13,7 +13,7 @@ use Rattle.line.specs.Faults.{numberOf, listed}
 use Rattle.lexitem.specs.declared.answer.Answer.{Answer}
 use Rattle.line.specs.Options.{plain}
 use Rattle.line.specs.declared.options.Options.{Options}
-use Rattle.lexitem.specs.declared.answer.Outcome.the-variants.{Accepted, Refused}
+use Rattle.lexitem.specs.declared.answer.Outcome.the-variants.{Accepted}
 use Rattle.line.specs.declared.fault.Fault.{Fault}
 use Rattle.line.specs.declared.fault.FaultKind.{FaultKind}
 use Rattle.line.specs.declared.fault.FaultKind.the-variants.{Short, Wrong, NoDigit, NoSign, Unknown}
@@ -22,7 +22,7 @@ use Rattle.line.specs.declared.fault.Sort.the-variants.{Unsigned as U, Signed a
 use Rattle.lexitem.specs.declared.item.LexItem.{LexItem}
 use Rattle.lexitem.specs.declared.item.LexItem.the-variants as item
 use Rattle.lexer.specs.Lexed.{lexed}
-use Rattle.lexitem.specs.Answer.{refusal}
+use Rattle.promises.specs.Refusing.{numbersOf}
 
 -- what 01 tells of a fault: its number, place and length, and "for 2, each fault says which sort of number the columns should have held"
 abbrev pub Told : Type 0
@@ -64,7 +64,7 @@ Found a (is x) = a .outcome ≡ Accepted x
 Found a (field {A} make get value) = (x : A) × (a .outcome ≡ Accepted (make x)) × (get x ≡ value)
 Found a (faults fs) = map toldBy (listed (a .faults)) ≡ fs
 Found a (count n) = a .faults .count ≡ n
-Found a (refused number place length) = a .outcome ≡ Refused (refusal number place length)
+Found a (refused number place length) = numbersOf (a .outcome) ≡ (number, place, length)
 
 abbrev pub ClaimsFound : Answer → List Claim → Type 0
 ClaimsFound a [] = Unit {0}

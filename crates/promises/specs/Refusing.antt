@@ -7,12 +7,20 @@ use mathlib.Core.Bool.{false}
 use mathlib.Core.List.{List, [], _∷_, _++_}
 use lib.ListN.{length, getD}
 use Rattle.number.specs.Trim.{endTrimmed}
+use Rattle.lexitem.specs.declared.answer.Outcome.{Outcome}
+use Rattle.lexitem.specs.declared.answer.Outcome.the-variants.{Accepted, Refused}
 use Rattle.lexitem.specs.declared.answer.Refusal.{Refusal}
 use Rattle.line.specs.declared.fault.Fault.{Fault}
 use Rattle.kind.specs.declared.Kind.{Kind}
 use Rattle.kind.specs.declared.Kind.the-variants.{Header, Remark, Cryst1, Seqadv, Modres, Ssbond}
 use Rattle.lexer.specs.Refusals.{Input, kind, faults}
 use Rattle.lexitem.specs.Answer.{refusal}
+
+-- "For an answer that is an enum, a definition gives this paper's number and values for each case": an outcome by its number, place and length;
+-- 0, which is no refusal's number, stands for a record
+abbrev pub numbersOf : Outcome → ℕ × ℕ × ℕ
+numbersOf (Accepted x) = (0, 0, 0)
+numbersOf (Refused r) = (r .number, r .place, r .length)
 
 -- a rule, as which refusals it gives
 abbrev pub Rule : Type 1

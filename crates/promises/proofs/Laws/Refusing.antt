@@ -2,6 +2,9 @@
 --     refused-when          a line is refused with r exactly when the first rule that holds gives r
 --     accepted-exactly      a line is accepted with x exactly when no rule holds, and x is the record of its kind
 --     refused-once          so the rules give a line one refusal at most
+--     refusal-numbered      whose number is from 1 to 7
+--     zero-accepted         an outcome whose number is 0 is a record
+--     refused-by-number     an outcome has a refusal's number, place and length exactly when the first rule that holds gives them
 --     refusal-empty         a refusal comes with an empty list of faults
 --     refusal-unlisted      which lists none
 --     line-through          the line's number is handed through
@@ -10,16 +13,18 @@
 --     atoms-silent          so the rules of 4, 5 and 6 are silent
 --     atoms-refused-when    and a line is refused by the other four
 -- Assumes nothing.
-use Prim.Native.Nat.{ℕ}
+use Prim.Native.Nat.{ℕ, _<_, _≤_}
 use mathlib.Core.Path.{_≡_, refl, sym, ap, _∙_}
 use mathlib.Core.Logic.{_≢_, _↔_, _⊎_, inl, inr, ⊎-elim, Iff·trans}
 use mathlib.Core.Bool.{Bool, true, false, cond, not, _&&_}
 use mathlib.Core.List.{List, [], _∷_}
 use native.Mathlib.Omega.{arith}
 use lib.ListN.{length, take}
-use lib.Dec.{ltb}
+use lib.Dec.{leb, ltb}
+use borrow.Author.Tests.{ltb-true, leb-true}
 use Rattle.number.proofs.Laws.Choice.{clash, and-left, and-right}
 use Rattle.line.specs.Faults.{noFaults, listed}
+use Rattle.lexitem.specs.declared.answer.Outcome.{Outcome}
 use Rattle.lexitem.specs.declared.answer.Outcome.the-variants.{Accepted, Refused}
 use Rattle.lexitem.specs.declared.answer.Refusal.{Refusal}
 use Rattle.lexitem.specs.declared.item.LexItem.{LexItem}
@@ -27,10 +32,11 @@ use Rattle.kind.specs.Kind.{Named, same, namesBy, shortNames, kindBy, kindOf}
 use Rattle.kind.specs.Name.{keptByAtoms}
 use Rattle.kind.specs.declared.Kind.{Kind}
 use Rattle.kind.specs.declared.Kind.the-variants.{Empty, Header, Remark}
+use Rattle.lexitem.specs.Answer.{refusal}
 use Rattle.lexitem.specs.Describe.{itemOf}
 use Rattle.lexer.specs.Lexed.{refused, accepted, firstOf, lexed}
 use Rattle.lexer.specs.Refusals.{Input, Test, kind, given, faults, tests}
-use Rattle.promises.specs.Refusing.{Rule, Least, Silent, First, Passed, rules, tableRule, lengthRule, byteRule, headerRule, remarkRule, leastRule, faultRule}
+use Rattle.promises.specs.Refusing.{numbersOf, Rule, Least, Silent, First, Passed, rules, tableRule, lengthRule, byteRule, headerRule, remarkRule, leastRule, faultRule}
 use Rattle.promises.proofs.Laws.Agreeing.{AllAgree, rules-agree}
 
 -- ---- the first row that holds is the first rule that does
@@ -114,6 +120,32 @@ module _ (i : Input) where
       let e = refused-when r .1 p in
       let f = refused-when s .1 q in
       cc
+
+  pub refusal-numbered : (r : Refusal) → First (rules i) r → (0 < r .number) × (r .number ≤ 7)
+  refusal-numbered r =
+      ⊎-elim (λ h. of 1 (h .1) refl) (λ p. ⊎-elim (λ h. of 2 (h .1) refl) (λ p. ⊎-elim (λ h. of 3 (h .2) refl) (λ p. ⊎-elim (λ h. of 4 (h .2) refl)
+      (λ p. ⊎-elim (λ h. of 5 (h .4) refl) (λ p. ⊎-elim (λ h. of 6 (h .3) refl) (λ p. ⊎-elim (λ h. of 7 (h .2) refl) (λ p. absurd (p .1)) (p .1)) (p .1))
+      (p .1)) (p .1)) (p .1)) (p .1))
+    where
+      of : (n : ℕ) {place length : ℕ} → r ≡ refusal n place length → (ltb 0 n && leb n 7) ≡ true → (0 < r .number) × (r .number ≤ 7)
+      of n e w = rw e (ltb-true 0 n (and-left (ltb 0 n) (leb n 7) w), leb-true n 7 (and-right (ltb 0 n) (leb n 7) w))
+
+  pub zero-accepted : numbersOf (lexed i .outcome) .0 ≡ 0 → (x : LexItem) × (lexed i .outcome ≡ Accepted x)
+  zero-accepted = go (lexed i .outcome) refl
+    where
+      go : (o : Outcome) → lexed i .outcome ≡ o → numbersOf o .0 ≡ 0 → (x : LexItem) × (lexed i .outcome ≡ Accepted x)
+      go (Accepted x) e z = (x, e)
+      go (Refused r) e z = let n = refusal-numbered r (refused-when r .0 e) .0 in absurd (omega arith)
+
+  pub refused-by-number : (n place length : ℕ) → 0 < n
+      → (numbersOf (lexed i .outcome) ≡ (n, place, length)) ↔ First (rules i) (refusal n place length)
+  refused-by-number n place length some = (go (lexed i .outcome) refl, λ h. ap numbersOf (refused-when (refusal n place length) .1 h))
+    where
+      go : (o : Outcome) → lexed i .outcome ≡ o → numbersOf o ≡ (n, place, length) → First (rules i) (refusal n place length)
+      go (Accepted x) e z = let zero : 0 ≡ n = ap (λ (t : ℕ × ℕ × ℕ). t .0) z in absurd (omega arith)
+      go (Refused r) e z =
+          refused-when (refusal n place length) .0
+          (e ∙ ap (λ (t : ℕ × ℕ × ℕ). Refused (refusal (t .0) (t .1) (t .2))) z)
 
   pub refusal-empty : (r : Refusal) → lexed i .outcome ≡ Refused r → lexed i .faults ≡ noFaults
   unfolding lexed
