@@ -39,13 +39,15 @@ $(program) $(server): $(sources)
 $(library): $(sources)
 	$(call quietly,rt staticlib saltighedda)
 
-# What will be left out is told first, and the rest is tried once the proofs hold. Their own count of what passed and what failed is the
-# last line printed.
+# What will be left out is told first, and the rest is tried once the proofs hold, the comparison beside the hosts. Their own count of what
+# passed and what failed is the last line printed.
 test: needs format contracts
-	@log=$$(mktemp); trap 'rm -f "$$log"' EXIT; \
+	@log=$$(mktemp); trap 'rm -f "$$log" "$$log.compared"' EXIT; \
 	rt ci | tee "$$log"; \
-	$(MAKE) --no-print-directory hosts compare; \
-	tail -n 1 "$$log"
+	$(MAKE) --no-print-directory compare > "$$log.compared" 2>&1 & compared=$$!; \
+	$(MAKE) --no-print-directory hosts; \
+	wait $$compared || { cat "$$log.compared"; exit 1; }; \
+	cat "$$log.compared"; tail -n 1 "$$log"
 
 needs:
 	@tests/needs.sh

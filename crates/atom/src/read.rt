@@ -193,7 +193,7 @@ fn quick_basics(line: &[u8]) -> FineBasics
 }
 
 fn quick_position(line: &[u8]) -> FinePosition
-    ensures { λ r. ⌜ r ≡ record { value = specs.positionOf (now (line .entry)); fine = lineFine (now (line .entry)) specs.positionTable } ⌝ }
+    ensures { λ r. ⌜ (r .value ≡ specs.positionOf (now (line .entry))) × (r .fine ≡ lineFine (now (line .entry)) specs.positionTable) ⌝ }
 {
     let x = fine_real(line, Position::X, 0.0);
     let y = fine_real(line, Position::Y, 0.0);

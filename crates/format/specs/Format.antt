@@ -5,8 +5,8 @@
 -- `a-b`, with how sure they are. A: the source of a package quotes the format's table for this record, and others agree. B: the code of two
 -- packages uses these columns without quoting. C: from memory.
 use Prim.Native.Nat.{ℕ, suc, _+_}
-use mathlib.Core.List.{List, [], _∷_, _++_}
-use Rattle.line.specs.Columns.{_⋯_}
+use mathlib.Core.List.{List, [], _∷_, _++_, map}
+use Rattle.line.specs.Columns.{_⋯_, inRow}
 use Rattle.line.specs.declared.columns.Columns.{Columns}
 use Rattle.kind.specs.declared.Kind.{Kind}
 use Rattle.kind.specs.declared.Kind.the-variants.{Empty, Header, Remark, Atom, Hetatm, Anisou, Cryst1, Scale, Origx, Mtrix, Model, Master, Dbref, Dbref1, Dbref2, Seqres, Seqadv, Modres, Ssbond, Endmdl, Ter, End}
@@ -56,15 +56,7 @@ formatOf Remark = integer at 7 ⋯ 10 ∷ text at 11 ⋯ 79 ∷ []
 formatOf Atom = atomHead ++ atomReals ++ atomEnd
 formatOf Hetatm = atomHead ++ atomReals ++ atomEnd
 -- 29-35 U11, 36-42 U22, 43-49 U33, 50-56 U12, 57-63 U13, 64-70 U23 (A)
-formatOf Anisou =
-    atomHead
-    ++ integer at 28 ⋯ 35
-    ∷ integer at 35 ⋯ 42
-    ∷ integer at 42 ⋯ 49
-    ∷ integer at 49 ⋯ 56
-    ∷ integer at 56 ⋯ 63
-    ∷ integer at 63 ⋯ 70
-    ∷ atomEnd
+formatOf Anisou = atomHead ++ map (λ columns. integer at columns) (inRow 6 7 28) ++ atomEnd
 -- 7-15 a, 16-24 b, 25-33 c, 34-40 alpha, 41-47 beta, 48-54 gamma, 56-66 sGroup, 67-70 z (A)
 formatOf Cryst1 =
     real at 6 ⋯ 15
@@ -84,20 +76,7 @@ formatOf (Mtrix row) = integer at 7 ⋯ 10 ∷ matrixRow ++ integer at 59 ⋯ 60
 formatOf Model = integer at 10 ⋯ 14 ∷ []
 -- 11-15 numRemark, 21-25 numHet, 26-30 numHelix, 31-35 numSheet, 36-40 numTurn, 41-45 numSite, 46-50 numXform, 51-55 numCoord, 56-60
 -- numTer, 61-65 numConect, 66-70 numSeq (A); 16-20 a zero (C, from memory)
-formatOf Master =
-    integer at 10 ⋯ 15
-    ∷ integer at 15 ⋯ 20
-    ∷ integer at 20 ⋯ 25
-    ∷ integer at 25 ⋯ 30
-    ∷ integer at 30 ⋯ 35
-    ∷ integer at 35 ⋯ 40
-    ∷ integer at 40 ⋯ 45
-    ∷ integer at 45 ⋯ 50
-    ∷ integer at 50 ⋯ 55
-    ∷ integer at 55 ⋯ 60
-    ∷ integer at 60 ⋯ 65
-    ∷ integer at 65 ⋯ 70
-    ∷ []
+formatOf Master = map (λ columns. integer at columns) (inRow 12 5 10)
 -- 8-11 idCode, 13 chainID, 15-18 seqBegin, 21-24 seqEnd, 27-32 database, 34-41 dbAccession, 43-54 dbIdCode, 56-60 dbseqBegin, 63-67
 -- dbseqEnd, and behind each of the four numbers its insertion code, 19, 25, 61 and 68 (A)
 formatOf Dbref =

@@ -1,7 +1,7 @@
 -- "Columns count from 0 and `a..b` excludes b."
-use Prim.Native.Nat.{ℕ, suc, _-_}
+use Prim.Native.Nat.{ℕ, suc, _+_, _-_}
 use mathlib.Core.Bool.{cond}
-use mathlib.Core.List.{List, []}
+use mathlib.Core.List.{List, [], _∷_}
 use lib.ListN.{length, take, drop}
 use lib.Dec.{ltb}
 use Rattle.line.specs.declared.columns.Columns.{Columns}
@@ -14,6 +14,11 @@ a ⋯ b = record { start = a; end = b }
 -- one column
 abbrev pub only : ℕ → Columns
 only column = column ⋯ suc column
+
+-- n fields of one width, one behind the other, from a column on
+abbrev pub inRow : ℕ → ℕ → ℕ → List Columns
+inRow ℕ.zero width start = []
+inRow (suc n) width start = start ⋯ (start + width) ∷ inRow n width (start + width)
 
 -- the part of the line in the columns, empty where the line doesn't reach their end
 unfoldable pub partOf : List ℕ → Columns → List ℕ

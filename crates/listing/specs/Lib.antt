@@ -1,5 +1,3 @@
--- The words that the contracts of this crate cite: the bytes of a row, of a listing, and what a listing leaves on lent bytes.
-pub mod Each
-pub mod Row
+-- The words that the contracts of this crate cite: the bytes of a listing, and what a listing leaves on lent bytes.
 pub mod Listing
 pub mod Listed

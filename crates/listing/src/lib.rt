@@ -5,16 +5,18 @@ ghost use Prim.Native.Nat.{_≤_, _<_, _^_};
 ghost use lib.ListN.{length, take};
 ghost use Rattle.listing.specs.Listed as into;
 ghost use Rattle.listing.specs.Listing as specs;
+ghost use Rattle.layout.specs.Label.{headRows};
 ghost use Rattle.page.specs.Page.{page, put};
 ghost use Rattle.kind.specs.Name.{nameOf};
 ghost use Rattle.lexitem.specs.Describe.{kindOfItem};
 
 mod fault;
-mod put;
 
 use crate::fault::put_faults;
-use crate::put::put_rows;
 use kind::name::name_of;
+use layout::put_head;
+use layout::put_number;
+use layout::rows::put_rows;
 use lexer::lex_line;
 use lexitem::answer::Outcome;
 use lexitem::answer::Refusal;
@@ -22,33 +24,21 @@ use lexitem::item::LexItem;
 use lexitem::item::rows_of;
 use line::fault::Fault;
 use line::options::Options;
-use page::put_byte;
-use page::put_bytes;
-use page::put_unsigned;
 
-// The first so many bytes of a text.
-fn put_front(out: &mut [u8], at: usize, text: [u8; 6], n: usize) -> usize
+// The head of a listing, the record's name being the first so many bytes of a text.
+fn put_front(out: &mut [u8], at: usize, text: [u8; 6], n: usize, number: usize) -> usize
     requires { ⌜ n ≤ 6 ⌝ }
-    ensures { λ r. ⌜ page (now (out .exit)) r ≡ put (page (now (out .entry)) at) (take n text) ⌝ }
+    ensures { λ r. ⌜ page (now (out .exit)) r ≡ put (page (now (out .entry)) at) (headRows (take n text) number) ⌝ }
 {
-    put_bytes(out, at, &text[..n])
+    put_head(out, at, &text[..n], number as u64)
 }
 
-fn put_name(out: &mut [u8], at: usize, item: LexItem) -> usize
-    ensures { λ r. ⌜ page (now (out .exit)) r ≡ put (page (now (out .entry)) at) (nameOf (kindOfItem item)) ⌝ }
+fn put_name(out: &mut [u8], at: usize, item: LexItem, number: usize) -> usize
+    ensures { λ r. ⌜ page (now (out .exit)) r ≡ put (page (now (out .entry)) at) (headRows (nameOf (kindOfItem item)) number) ⌝ }
 {
     let name = name_of(item.kind());
     let text = name.text;
-    put_front(out, at, text, name.length)
-}
-
-// A label, a number and the end of the row.
-fn put_number(out: &mut [u8], at: usize, label: &[u8], n: u64) -> usize
-    ensures { λ r. ⌜ page (now (out .exit)) r ≡ put (page (now (out .entry)) at) (specs.numberRow (now (label .entry)) n) ⌝ }
-{
-    let number = put_bytes(out, at, label);
-    let end = put_unsigned(out, number, n);
-    put_byte(out, end, b'\n')
+    put_front(out, at, text, name.length, number)
 }
 
 // The one emitter.
@@ -64,10 +54,7 @@ fn put_listing(
     requires { ⌜ count ≤ 16 ⌝ }
     ensures { λ r. ⌜ page (now (out .exit)) r ≡ put (page (now (out .entry)) at) (specs.listingOf number (now (line .entry)) item (take count faults)) ⌝ }
 {
-    let name = put_bytes(out, at, b"record=");
-    let feed = put_name(out, name, item);
-    let label = put_byte(out, feed, b'\n');
-    let fields = put_number(out, label, b"line=", number as u64);
+    let fields = put_name(out, at, item, number);
     let rows = rows_of(item);
     let list = rows.list;
     let total = put_rows(out, fields, line, list);

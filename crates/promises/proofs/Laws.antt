@@ -6,6 +6,7 @@ pub mod Reals
 pub mod Kinds
 pub mod Fields
 pub mod Agreeing
+pub mod Numbered
 pub mod Refusing
 pub mod Few
 pub mod Faults

@@ -2,5 +2,6 @@
 pub mod Reals
 pub mod Departures
 pub mod Refusing
+pub mod Numbered
 pub mod Edges
 pub mod Defaults

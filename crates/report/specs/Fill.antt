@@ -1,6 +1,6 @@
 -- What is printed for lines, and the part of it that lent bytes have room for. A line's report is put while the longest would have room, so a
 -- line is put whole or not at all, and whether it is doesn't hang on what it holds.
-use Prim.Native.Nat.{ℕ, suc, _+_, _-_, _^_, _≤_, min}
+use Prim.Native.Nat.{ℕ, suc, _+_, _-_, _≤_}
 use mathlib.Core.Path.{_≡_}
 use mathlib.Core.Bool.{cond}
 use mathlib.Core.List.{List, [], _∷_, _++_}
@@ -9,7 +9,7 @@ use lib.Dec.{ltb}
 use Rattle.listing.specs.Listing.{longest}
 use Rattle.report.specs.Report.{report}
 use Rattle.report.specs.declared.fill.Filled.{Filled}
-use Rattle.walker.specs.Lines.{linesOf, lineTaken}
+use Rattle.walker.specs.Lines.{linesOf, lineTaken, numberBehind}
 
 -- the reports of lines, in order, numbered from a number on
 unfoldable pub reportsFrom : ℕ → List (List ℕ) → List ℕ
@@ -31,16 +31,12 @@ stop at number = record { text = []; at = at; number = number }
 abbrev pub behind : List ℕ → Filling → Filling
 behind t x = record { text = t ++ x .text; at = x .at; number = x .number }
 
--- the number behind a number, which stops at the last that there is
-abbrev pub following : ℕ → ℕ
-following n = min (n + 1) (2 ^ 64 - 1)
-
 -- what room has enough of the lines of a file f that stand from `at` on, the first of them having a number
 unfoldable pub fill : ℕ → List ℕ → List (List ℕ) → ℕ → ℕ → Filling
 fill room f [] at number = stop at number
 fill room f (l ∷ ls) at number =
     cond (ltb room longest) (stop at number)
-    (behind (report number l) (fill (room - length (report number l)) f ls (at + lineTaken (drop at f)) (following number)))
+    (behind (report number l) (fill (room - length (report number l)) f ls (at + lineTaken (drop at f)) (numberBehind number)))
 
 unfoldable pub filling : ℕ → List ℕ → ℕ → ℕ → Filling
 filling room f at number = fill room f (linesOf (drop at f)) at number

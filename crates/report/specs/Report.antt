@@ -8,6 +8,7 @@ use lib.ListN.{length, replicate}
 use lib.Dec.{leb}
 use Rattle.line.specs.Bytes.{bytes}
 use Rattle.line.specs.Options.{plain}
+use Rattle.layout.specs.Label.{headRows, threeRow}
 use Rattle.lexer.specs.Lexed.{lexed}
 use Rattle.lexer.specs.Refusals.{Input}
 use Rattle.lexitem.specs.declared.answer.Outcome.{Outcome}
@@ -15,14 +16,11 @@ use Rattle.lexitem.specs.declared.answer.Outcome.the-variants.{Accepted, Refuse
 use Rattle.lexitem.specs.declared.answer.Refusal.{Refusal}
 use Rattle.listing.specs.Listed.{listingBy}
 use Rattle.listing.specs.Listing.{longest}
-use Rattle.page.specs.Numerals.{decimal}
 
 -- the rows of a refusal
 unfoldable pub refusedRows : ℕ → Refusal → List ℕ
 refusedRows number r =
-    bytes "record=REFUSED\nline=" ++ decimal number
-    ++ bytes "\nrefusal=" ++ decimal (r .number) ++ bytes "," ++ decimal (r .place) ++ bytes "," ++ decimal (r .length)
-    ++ bytes "\n"
+    headRows (bytes "REFUSED") number ++ threeRow (bytes "refusal=") (r .number) (r .place) (r .length)
 
 -- the refusal of a line whose listing needs more room than there is
 abbrev pub tooLong : ℕ → Refusal

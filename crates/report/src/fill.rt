@@ -10,6 +10,7 @@ ghost use Rattle.report.specs.Report.{inputOf, report, reportOf};
 ghost use Rattle.walker.specs.Lines.{partOf};
 use crate::put_report;
 use line::options::Options;
+use walker::following;
 use walker::lines::Step;
 use walker::lines::line;
 use walker::step;
@@ -41,16 +42,6 @@ fn put_behind(
     let text = line(file, start, end);
     let most = n + LONGEST;
     put_line(text, number, &mut out[n..most])
-}
-
-// The number behind a number. No file has so many lines that there is none.
-fn following(n: usize) -> usize
-    ensures { λ r. ⌜ r ≡ specs.following n ⌝ }
-{
-    if n == 18446744073709551615 {
-        return n;
-    }
-    n + 1
 }
 
 // Where the first line stands that was not put, its number, and how many bytes were put.

@@ -3,12 +3,12 @@ ghost use mathlib.Core.Path.{_≡_};
 ghost use lib.ListN.{length};
 ghost use Rattle.page.specs.Page.{page, put};
 ghost use Rattle.report.specs.Report.{refusedRows, reportOf};
+use layout::put_head;
+use layout::put_three;
 use lexitem::answer::Refusal;
 use line::options::Options;
 use listing::Listed;
 use listing::list_line;
-use page::put_bytes;
-use page::put_unsigned;
 
 pub mod fill;
 
@@ -16,15 +16,15 @@ pub mod fill;
 pub fn put_refused(out: &mut [u8], at: usize, number: usize, refusal: Refusal) -> usize
     ensures { λ r. ⌜ page (now (out .exit)) r ≡ put (page (now (out .entry)) at) (refusedRows number refusal) ⌝ }
 {
-    let at = put_bytes(out, at, b"record=REFUSED\nline=");
-    let at = put_unsigned(out, at, number as u64);
-    let at = put_bytes(out, at, b"\nrefusal=");
-    let at = put_unsigned(out, at, refusal.number as u64);
-    let at = put_bytes(out, at, b",");
-    let at = put_unsigned(out, at, refusal.place as u64);
-    let at = put_bytes(out, at, b",");
-    let at = put_unsigned(out, at, refusal.length as u64);
-    put_bytes(out, at, b"\n")
+    let why = put_head(out, at, b"REFUSED", number as u64);
+    put_three(
+        out,
+        why,
+        b"refusal=",
+        refusal.number as u64,
+        refusal.place as u64,
+        refusal.length as u64,
+    )
 }
 
 // A line's listing at the front of lent bytes, or the rows of its refusal. A line whose listing has no room there is refused for that.

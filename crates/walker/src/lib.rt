@@ -1,7 +1,7 @@
 // The lines of a lent file. A walker keeps the file and a position in it; the functions over it are thin, and leave the work to
 // `lines::line_at`, which takes the file and the position as they are. Callers that hold no walker use `step`.
 ghost use mathlib.Core.Path.{_≡_};
-ghost use Rattle.walker.specs.Lines.{stepAt};
+ghost use Rattle.walker.specs.Lines.{numberBehind, stepAt};
 use crate::lines::Step;
 
 pub mod lines;
@@ -41,4 +41,14 @@ pub fn step(file: &[u8], at: usize) -> Step
     ensures { λ r. ⌜ r ≡ stepAt (now (file .entry)) at ⌝ }
 {
     next(moved(new(file), at))
+}
+
+// The number of the line behind a line. No file has so many lines that there is none.
+pub fn following(n: usize) -> usize
+    ensures { λ r. ⌜ r ≡ numberBehind n ⌝ }
+{
+    if n == 18446744073709551615 {
+        return n;
+    }
+    n + 1
 }

@@ -1,5 +1,6 @@
 -- `bench_read::mixed_atom` meets its contract: each call mixes one double.
 -- Assumes nothing.
+use mathlib.Core.Path.{refl}
 use Rattle.bench_read.specs.Checksum.{mixedAtom}
 use borrow.Author.Needs.{needs}
 use Rattle.bench_read.proofs.mixed_atom.Statement.{statement}
@@ -23,7 +24,7 @@ mixed-real-requires-5 c κs = search needs
 returns : tie.Need-returns
 unfolding mixedAtom
 returns c =
-    simp (c .mixed-real5 .ensures, c .before .mixed-real4 .ensures, c .before .before .mixed-real3 .ensures, c .before .before .before .mixed-real2 .ensures, c .before .before .before .before .mixed-real .ensures)
+    simp (c .mixed-real5 .ensures, c .before .mixed-real4 .ensures, c .before .before .mixed-real3 .ensures, c .before .before .before .mixed-real2 .ensures, c .before .before .before .before .mixed-real .ensures) refl
 
 pub mixed-atom-spec : {M : Type 1} → statement M
 mixed-atom-spec =

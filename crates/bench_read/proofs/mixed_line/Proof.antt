@@ -1,5 +1,6 @@
 -- `bench_read::mixed_line` meets its contract: what lexing the line answers is mixed in.
 -- Assumes nothing.
+use mathlib.Core.Path.{refl}
 use Rattle.bench_read.specs.Checksum.{mixedAnswer}
 use borrow.Author.Needs.{needs}
 use Rattle.bench_read.proofs.mixed_line.Statement.{statement}
@@ -16,7 +17,7 @@ mixed-requires c κs = search needs
 
 returns : tie.Need-returns
 unfolding mixedAnswer
-returns c = simp (c .mixed .ensures, c .before .mixed-outcome .ensures, c .before .before .before .lex-line .ensures)
+returns c = simp (c .mixed .ensures, c .before .mixed-outcome .ensures, c .before .before .before .lex-line .ensures) refl
 
 pub mixed-line-spec : {M : Type 1} → statement M
 mixed-line-spec =

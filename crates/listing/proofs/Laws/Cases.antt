@@ -20,9 +20,10 @@ use Rattle.line.specs.declared.text.Character.the-variants.{At, Unreached, Abse
 use Rattle.line.specs.declared.text.Text.{Text}
 use Rattle.page.specs.Numerals.{decimalBefore, decimal, signedDecimal, hexDigit, hexBefore, hex16, plain, shown, escaped}
 use Rattle.kind.specs.Kind.{rowOf}
-use Rattle.listing.specs.Each.{each}
-use Rattle.listing.specs.Listing.{numberRow, faultBytes, listingOf}
-use Rattle.listing.specs.Row.{rowBytes}
+use Rattle.layout.specs.Each.{each}
+use Rattle.layout.specs.Label.{headRows, numberRow, threeRow}
+use Rattle.listing.specs.Listing.{listingOf}
+use Rattle.layout.specs.Row.{rowBytes}
 
 -- rows of a listing as one writes them
 abbrev lines : List String → List ℕ
@@ -36,7 +37,7 @@ pub models : (listingOf 1 (bytes "MODEL        2") (Model (record { number = 2 }
     ≡ lines ("record=MODEL" ∷ "line=1" ∷ "f6=2" ∷ "faults=0" ∷ []))
     × (listingOf 2 (bytes "MODEL x") (Model (record { number = 0 })) (record { kind = Wrong Unsigned; place = 6; length = 1 } ∷ [])
     ≡ lines ("record=MODEL" ∷ "line=2" ∷ "f6=0" ∷ "faults=1" ∷ "fault=2,6,1" ∷ []))
-unfolding listingOf numberRow faultBytes each rowBytes decimal decimalBefore
+unfolding listingOf headRows numberRow threeRow each rowBytes decimal decimalBefore
 models = (refl, refl)
 
 pub scale : listingOf 3 []
@@ -60,7 +61,7 @@ pub scale : listingOf 3 []
     ∷ "f45=3FD0000000000000"
     ∷ "faults=0"
     ∷ [])
-unfolding listingOf numberRow each rowBytes decimal decimalBefore hex16 hexBefore hexDigit ofBits toBits rowOf
+unfolding listingOf headRows numberRow each rowBytes decimal decimalBefore hex16 hexBefore hexDigit ofBits toBits rowOf
 scale = refl
 
 pub modres : listingOf 7 (97 ∷ 37 ∷ 127 ∷ 32 ∷ [])
@@ -77,7 +78,7 @@ pub modres : listingOf 7 (97 ∷ 37 ∷ 127 ∷ 32 ∷ [])
     []
     ≡ lines
     ("record=MODRES" ∷ "line=7" ∷ "f7=a%25%7F" ∷ "f12=" ∷ "f16= " ∷ "f18=-5" ∷ "f24= " ∷ "f29=" ∷ "faults=0" ∷ [])
-unfolding listingOf numberRow each rowBytes decimal decimalBefore signedDecimal escaped shown plain hexDigit withinOf
+unfolding listingOf headRows numberRow each rowBytes decimal decimalBefore signedDecimal escaped shown plain hexDigit withinOf
 modres = refl
 
 pub seqadv : listingOf 8 (97 ∷ 98 ∷ [])
@@ -107,5 +108,5 @@ pub seqadv : listingOf 8 (97 ∷ 98 ∷ [])
     ∷ "f49="
     ∷ "faults=0"
     ∷ [])
-unfolding listingOf numberRow each rowBytes decimal decimalBefore signedDecimal escaped shown plain withinOf
+unfolding listingOf headRows numberRow each rowBytes decimal decimalBefore signedDecimal escaped shown plain withinOf
 seqadv = refl

@@ -27,10 +27,12 @@ use Rattle.lexitem.specs.Describe.{describe, fieldsBy, itemOf, fieldsOf, kindOf
 use Rattle.lexitem.specs.Shown.{shown, sorted}
 use Rattle.lexitem.proofs.Laws.Kinds.{by-table, fields-shown}
 use Rattle.kind.proofs.Laws.Name.{name-most}
-use Rattle.listing.specs.Each.{each}
+use Rattle.layout.specs.Each.{each}
 use Rattle.listing.specs.Listed.{listingBy}
-use Rattle.listing.specs.Listing.{numberRow, faultBytes, faultsBytes, listingOf, longest}
-use Rattle.listing.specs.Row.{rowsBytes}
+use Rattle.layout.specs.Fault.{faultBytes, faultsBytes}
+use Rattle.layout.specs.Label.{headRows, numberRow, threeRow}
+use Rattle.listing.specs.Listing.{listingOf, longest}
+use Rattle.layout.specs.Row.{rowsBytes}
 use Rattle.lexer.proofs.Laws.Accepted.{accepted-item, accepted-line, accepted-few, accepted-faults}
 use Rattle.listing.proofs.Laws.Room.{decimal-most, rows-room}
 use Rattle.listing.proofs.Laws.Table.{tableRoom, shown-room, sorted-room, rows-held}
@@ -57,7 +59,7 @@ kind-digit NoSign = lit≤ tt
 kind-digit Unknown = lit≤ tt
 
 fault-most : (f : Fault) → length (faultBytes f) ≤ 50
-unfolding faultBytes
+unfolding threeRow
 fault-most f =
     let k = kind-digit (f .kind) in
     let p = decimal-most (f .place) in
@@ -75,12 +77,12 @@ number-most label n = let h = decimal-most n in simp length-append (omega arith)
 
 -- ---- all of it
 pub listing-some : (n : ℕ) (l : List ℕ) (x : LexItem) (fs : List Fault) → 0 < length (listingOf n l x fs)
-unfolding listingOf
+unfolding listingOf headRows
 listing-some n l x fs = simp length-append (omega arith)
 
 listing-most : (n : ℕ) (l : List ℕ) (x : LexItem) (fs : List Fault) (room : ℕ) → length (rowsBytes l (fieldsOf x)) ≤ room
     → length fs ≤ 16 → length (listingOf n l x fs) ≤ room + 868
-unfolding listingOf
+unfolding listingOf headRows
 listing-most n l x fs room h few =
     let name = name-most (kindOfItem x) in
     let line = number-most (bytes "line=") n in

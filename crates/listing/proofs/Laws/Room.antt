@@ -28,8 +28,8 @@ use Rattle.page.proofs.Laws.Hex.{hex16-length}
 use Rattle.row.specs.declared.Row.{Row}
 use Rattle.row.specs.declared.Value.{Value}
 use Rattle.row.specs.declared.Value.the-variants.{Unsigned, Signed, Real, Words, One, Flag, Nothing}
-use Rattle.listing.specs.Each.{each}
-use Rattle.listing.specs.Row.{present, fieldBytes, valueBytes, rowBytes, rowsBytes}
+use Rattle.layout.specs.Each.{each}
+use Rattle.layout.specs.Row.{present, fieldBytes, valueBytes, rowBytes, rowsBytes}
 
 -- ---- numbers
 before-most : (k n : ℕ) (t : List ℕ) → length (decimalBefore k n t) ≤ k + length t

@@ -11,8 +11,8 @@ use Rattle.lexitem.specs.Describe.{fieldsOf}
 use Rattle.lexitem.proofs.Laws.Kinds.{rows-sixteen}
 use Rattle.row.specs.Rows.{padded}
 use Rattle.row.specs.declared.Row.{Row}
-use Rattle.listing.specs.Each.{each}
-use Rattle.listing.specs.Row.{rowBytes, rowsBytes}
+use Rattle.layout.specs.Each.{each}
+use Rattle.layout.specs.Row.{rowBytes, rowsBytes}
 
 nothing : (l : List ℕ) (k : ℕ) → rowsBytes l (padded k []) ≡ []
 unfolding each rowBytes

@@ -20,8 +20,8 @@ use Rattle.row.specs.declared.Row.{Row}
 use Rattle.row.specs.declared.Value.{Value}
 use Rattle.row.specs.declared.Value.the-variants.{Unsigned, Signed, Real, Words, One, Flag, Nothing}
 use Rattle.seqres.specs.Seqres.{tripleAt, tripleText, triplesFrom, tripleRow, tripleRows}
-use Rattle.listing.specs.Each.{each}
-use Rattle.listing.specs.Row.{rowBytes, rowsBytes}
+use Rattle.layout.specs.Each.{each}
+use Rattle.layout.specs.Row.{rowBytes, rowsBytes}
 use Rattle.listing.proofs.Laws.Room.{decimal-most, roomOf, rowRoom, rowsRoom, text-most, within-most, from-most, end-most}
 
 abbrev labelled : ℕ → ℕ → ℕ

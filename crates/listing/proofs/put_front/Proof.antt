@@ -1,4 +1,4 @@
--- `listing::put_front` meets its contract: what is put is the part.
+-- `listing::put_front` meets its contract: the name is the part.
 -- Assumes nothing.
 use mathlib.Core.Path.{sym}
 use native.Mathlib.Omega.{arith}
@@ -10,14 +10,14 @@ use Rattle.listing.proofs.put_front.Tie as tie
 array-share-prefix-text : tie.Need-array-share-prefix-text
 array-share-prefix-text c = search needs
 
-slice-aggregate-put-bytes : tie.Need-slice-aggregate-put-bytes
-slice-aggregate-put-bytes c =
+slice-aggregate-put-head : tie.Need-slice-aggregate-put-head
+slice-aggregate-put-head c =
     let start = c .before .before .before in
     let many = start .good in
     sym (length-take-le (start .args .n) (start .args .t3) (omega arith))
 
-put-bytes-requires : tie.Need-put-bytes-requires
-put-bytes-requires c κs = search needs
+put-head-requires : tie.Need-put-head-requires
+put-head-requires c κs = search needs
 
 same-length : tie.Need-same-length
 same-length c = search needs
@@ -30,7 +30,7 @@ put-front-spec =
     tie.close
     (tie.spec
     array-share-prefix-text
-    slice-aggregate-put-bytes
-    put-bytes-requires
+    slice-aggregate-put-head
+    put-head-requires
     same-length
     returns)

@@ -1,5 +1,6 @@
 -- `page::hex_digit` meets its contract: its test is the definition's.
 -- Assumes nothing.
+use mathlib.Core.Path.{refl}
 use borrow.Author.Tests.{lt-ltb, le-ltb}
 use Rattle.page.specs.Numerals.{hexDigit}
 use borrow.Author.Needs.{needs}
@@ -18,7 +19,7 @@ add-result-2 c = search needs
 
 returns-2 : tie.Need-returns-2
 unfolding hexDigit
-returns-2 c = simp (le-ltb _ _ (c .if1 .left))
+returns-2 c = simp (le-ltb _ _ (c .if1 .left)) refl
 
 pub hex-digit-spec : {M : Type 1} → statement M
 hex-digit-spec = tie.close (tie.spec add-result returns add-result-2 returns-2)

@@ -15,10 +15,10 @@ use lib.ListN.{length, take, drop, length-append, length-drop}
 use lib.Seq.{drop-drop, take-at}
 use lib.Dec.{ltb}
 use Rattle.listing.specs.Listing.{longest}
-use Rattle.walker.specs.Lines.{linesOf, lineTaken}
+use Rattle.walker.specs.Lines.{linesOf, lineTaken, numberBehind}
 use Rattle.walker.proofs.Laws.Lines.{lines-first, lines-le}
 use Rattle.report.specs.Report.{report, inputOf}
-use Rattle.report.specs.Fill.{reportsFrom, Filling, stop, behind, following, fill, filling, Fills, fillings, Enough}
+use Rattle.report.specs.Fill.{reportsFrom, Filling, stop, behind, fill, filling, Fills, fillings, Enough}
 use Rattle.report.specs.declared.fill.Filled.{Filled}
 use Rattle.report.proofs.Laws.Room.{report-room}
 
@@ -31,16 +31,16 @@ pub fill-room : (room : ℕ) (f : List ℕ) (ls : List (List ℕ)) (at number : 
 unfolding fill
 fill-room room f [] at number = omega arith
 fill-room room f (l ∷ ls) at number =
-    go (ltb room longest) refl (fill-room (room - length (report number l)) f ls (at + lineTaken (drop at f)) (following number))
+    go (ltb room longest) refl (fill-room (room - length (report number l)) f ls (at + lineTaken (drop at f)) (numberBehind number))
   where
     go : (c : Bool) → ltb room longest ≡ c
-        → length (fill (room - length (report number l)) f ls (at + lineTaken (drop at f)) (following number) .text) ≤ room - length (report number l)
-        → length ((cond c (stop at number) (behind (report number l) (fill (room - length (report number l)) f ls (at + lineTaken (drop at f)) (following number)))) .text) ≤ room
+        → length (fill (room - length (report number l)) f ls (at + lineTaken (drop at f)) (numberBehind number) .text) ≤ room - length (report number l)
+        → length ((cond c (stop at number) (behind (report number l) (fill (room - length (report number l)) f ls (at + lineTaken (drop at f)) (numberBehind number)))) .text) ≤ room
     go true e h = omega arith
     go false e h =
         let most = report-most number l in
         let enough = ltb-false room longest e in
-        rw (length-append (report number l) (fill (room - length (report number l)) f ls (at + lineTaken (drop at f)) (following number) .text)) (omega arith)
+        rw (length-append (report number l) (fill (room - length (report number l)) f ls (at + lineTaken (drop at f)) (numberBehind number) .text)) (omega arith)
 
 pub filling-room : (room : ℕ) (f : List ℕ) (at number : ℕ) → length (filling room f at number .text) ≤ room
 unfolding filling
@@ -65,7 +65,7 @@ pub record Left (f : List ℕ) (number : ℕ) (ls : List (List ℕ)) (t : Fillin
 left-stop : (f : List ℕ) (ls : List (List ℕ)) (at number : ℕ) → linesOf (drop at f) ≡ ls → Left f number ls (stop at number)
 left-stop f ls at number e = record { text = rw e refl; sum = rw e refl; fewer = rw e (omega arith) }
 
-left-behind : (f l : List ℕ) (ls : List (List ℕ)) (number : ℕ) (t : Filling) → following number ≡ suc number → Left f (following number) ls t
+left-behind : (f l : List ℕ) (ls : List (List ℕ)) (number : ℕ) (t : Filling) → numberBehind number ≡ suc number → Left f (numberBehind number) ls t
     → Left f number (l ∷ ls) (behind (report number l) t)
 unfolding reportsFrom
 left-behind f l ls number t n g =
@@ -82,13 +82,13 @@ pub fill-left : (room : ℕ) (f : List ℕ) (ls : List (List ℕ)) (at number : 
 unfolding fill
 fill-left room f [] at number e h = left-stop f [] at number e
 fill-left room f (l ∷ ls) at number e h =
-    let n : following number ≡ suc number = omega arith in
+    let n : numberBehind number ≡ suc number = omega arith in
     go (ltb room longest)
-    (left-behind f l ls number _ n (fill-left (room - length (report number l)) f ls (at + lineTaken (drop at f)) (following number) (lines-behind f at l ls e) (omega arith)))
+    (left-behind f l ls number _ n (fill-left (room - length (report number l)) f ls (at + lineTaken (drop at f)) (numberBehind number) (lines-behind f at l ls e) (omega arith)))
   where
     go : (c : Bool)
-        → Left f number (l ∷ ls) (behind (report number l) (fill (room - length (report number l)) f ls (at + lineTaken (drop at f)) (following number)))
-        → Left f number (l ∷ ls) (cond c (stop at number) (behind (report number l) (fill (room - length (report number l)) f ls (at + lineTaken (drop at f)) (following number))))
+        → Left f number (l ∷ ls) (behind (report number l) (fill (room - length (report number l)) f ls (at + lineTaken (drop at f)) (numberBehind number)))
+        → Left f number (l ∷ ls) (cond c (stop at number) (behind (report number l) (fill (room - length (report number l)) f ls (at + lineTaken (drop at f)) (numberBehind number))))
     go true g = left-stop f (l ∷ ls) at number e
     go false g = g
 
@@ -96,9 +96,9 @@ pub fill-fewer : (room : ℕ) (f l : List ℕ) (ls : List (List ℕ)) (at number
     → number + suc (length ls) < 2 ^ 64 → length (linesOf (drop (fill room f (l ∷ ls) at number .at) f)) ≤ length ls
 unfolding fill
 fill-fewer room f l ls at number r e h =
-    let n : following number ≡ suc number = omega arith in
+    let n : numberBehind number ≡ suc number = omega arith in
     rw (le-ltb room longest r)
-    (fill-left (room - length (report number l)) f ls (at + lineTaken (drop at f)) (following number) (lines-behind f at l ls e) (omega arith) .fewer)
+    (fill-left (room - length (report number l)) f ls (at + lineTaken (drop at f)) (numberBehind number) (lines-behind f at l ls e) (omega arith) .fewer)
 
 -- ---- the same, of a filling from an offset on
 pub filling-left : (room : ℕ) (f : List ℕ) (at number : ℕ) → number + length (linesOf (drop at f)) < 2 ^ 64

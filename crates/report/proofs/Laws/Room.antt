@@ -13,6 +13,7 @@ use native.Mathlib.Omega.{arith}
 use borrow.Author.Tests.{le-leb}
 use lib.ListN.{length, take, length-append}
 use lib.Seq.{take-at}
+use Rattle.layout.specs.Label.{headRows, numberRow, threeRow}
 use Rattle.lexer.specs.Lexed.{lexed}
 use Rattle.lexer.specs.Refusals.{Input}
 use Rattle.lexitem.specs.declared.answer.Outcome.{Outcome}
@@ -27,7 +28,7 @@ use Rattle.page.proofs.Laws.Page.{put-count, put-front}
 use Rattle.report.specs.Report.{refusedRows, reportBy, reportOf}
 
 pub refused-most : (number : ℕ) (r : Refusal) → length (refusedRows number r) ≤ 112
-unfolding refusedRows
+unfolding refusedRows headRows numberRow threeRow
 refused-most number r =
     let line = decimal-most number in
     let name = decimal-most (r .number) in

@@ -13,11 +13,11 @@ use borrow.Author.Tests.{lt-ltb, le-ltb}
 use lib.ListN.{length, take, drop, length-append, length-drop, take-append-drop}
 use lib.Seq.{drop-drop, take-at, drop-at, length-take-le}
 use Rattle.listing.specs.Listing.{longest}
-use Rattle.walker.specs.Lines.{linesOf, lineTaken, stepAt, partOf}
+use Rattle.walker.specs.Lines.{linesOf, lineTaken, stepAt, partOf, numberBehind}
 use Rattle.walker.specs.declared.lines.Step.the-variants.{At, End}
 use Rattle.walker.proofs.Laws.Lines.{step-served, step-in, step-end, end-lines}
 use Rattle.report.specs.Report.{report}
-use Rattle.report.specs.Fill.{Filling, stop, behind, following, fill, filling, Fills, PutBehind}
+use Rattle.report.specs.Fill.{Filling, stop, behind, fill, filling, Fills, PutBehind}
 
 pub record So (f : List ℕ) (at number : ℕ) (before after : List ℕ) (i k n : ℕ) : Type 0 where
   pub made : behind (take n after) (filling (length before - n) f i k) ≡ filling (length before) f at number
@@ -45,7 +45,7 @@ unfolding filling fill
 filling-end room f i k e = rw e refl
 
 filling-line : (room : ℕ) (f : List ℕ) (i k start end next : ℕ) → longest ≤ room → stepAt f i ≡ At start end next
-    → filling room f i k ≡ behind (report k (partOf f start end)) (filling (room - length (report k (partOf f start end))) f next (following k))
+    → filling room f i k ≡ behind (report k (partOf f start end)) (filling (room - length (report k (partOf f start end))) f next (numberBehind k))
 unfolding filling fill
 filling-line room f i k start end next h e =
     let s = step-served f i start end next e in
@@ -90,7 +90,7 @@ module _ (f : List ℕ) (at number : ℕ) (before after : List ℕ) (i k n : ℕ
         → behind (take n after ++ t) x ≡ filling (length before) f at number
     again t x g = rw (append-assoc (take n after) t (x .text)) (rw g at (h .made))
 
-    pub so-next : So f at number before later next (following k) (n + r)
+    pub so-next : So f at number before later next (numberBehind k) (n + r)
     so-next =
         let t = report k (partOf f start end) in
         let size = h .size in
@@ -104,7 +104,7 @@ module _ (f : List ℕ) (at number : ℕ) (before after : List ℕ) (i k n : ℕ
         rw (put .count) (record {
           made =
               rw (put .bytes, take-at (take n after ++ t) (drop (n + length t) after) (n + length t) many, less)
-              (again t (filling (length before - n - length t) f next (following k)) turn);
+              (again t (filling (length before - n - length t) f next (numberBehind k)) turn);
           rest =
               rw (put .bytes, drop-at (take n after ++ t) (drop (n + length t) after) (n + length t) many)
               (sym (drop-drop (length t) n after) ∙ ap (drop (length t)) (h .rest) ∙ drop-drop (length t) n before);

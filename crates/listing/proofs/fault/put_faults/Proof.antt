@@ -4,9 +4,9 @@ use Prim.Native.Nat.{_-_, _≤_}
 use mathlib.Core.Path.{_≡_}
 use native.Mathlib.Omega.{arith}
 use lib.ListN.{length, take, drop}
-use Rattle.listing.specs.Listing.{faultBytes, faultsBytes}
+use Rattle.layout.specs.Fault.{faultBytes, faultsBytes}
 use Rattle.page.specs.Page.{put, page}
-use Rattle.listing.proofs.Laws.Each.{front-next, front-done}
+use Rattle.layout.proofs.Laws.Each.{front-next, front-done}
 use borrow.Author.Needs.{needs}
 use Rattle.listing.proofs.fault.put_faults.Statement.{statement}
 use Rattle.listing.proofs.fault.put_faults.Tie as tie

@@ -1,12 +1,12 @@
--- `listing::put::put_row` meets its contract: the calls put the parts of `rowBytes` one behind the other.
+-- `layout::rows::put_row` meets its contract: the calls put the parts of `rowBytes` one behind the other.
 -- Assumes nothing.
 use mathlib.Core.Path.{refl, sym, _∙_}
-use Rattle.listing.specs.Row.{rowBytes}
+use Rattle.layout.specs.Row.{rowBytes}
 use Rattle.page.proofs.Laws.Page.{put-then}
 use Rattle.page.specs.Page.{put}
 use borrow.Author.Needs.{needs}
-use Rattle.listing.proofs.put.put_row.Statement.{statement}
-use Rattle.listing.proofs.put.put_row.Tie as tie
+use Rattle.layout.proofs.rows.put_row.Statement.{statement}
+use Rattle.layout.proofs.rows.put_row.Tie as tie
 
 is-present-requires : tie.Need-is-present-requires
 is-present-requires c κs = search needs

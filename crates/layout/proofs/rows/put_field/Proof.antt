@@ -1,8 +1,8 @@
--- `listing::put::put_field` meets its contract: what is put is the view.
+-- `layout::rows::put_field` meets its contract: what is put is the view.
 -- Assumes nothing.
 use borrow.Author.Needs.{needs}
-use Rattle.listing.proofs.put.put_field.Statement.{statement}
-use Rattle.listing.proofs.put.put_field.Tie as tie
+use Rattle.layout.proofs.rows.put_field.Statement.{statement}
+use Rattle.layout.proofs.rows.put_field.Tie as tie
 
 slice-aggregate-view : tie.Need-slice-aggregate-view
 slice-aggregate-view c = search needs

@@ -11,7 +11,7 @@ use lib.ListN.{length, take, drop, getD, length-take, drop-of-length-le}
 use lib.Seq.{drop-cons, getD-take}
 use Rattle.page.specs.Page.{Page, put}
 use Rattle.page.proofs.Laws.Page.{put-step}
-use Rattle.listing.specs.Each.{each}
+use Rattle.layout.specs.Each.{each}
 
 module _ {A : Type 0} (f : A → List ℕ) (xs : List A) (i : ℕ) (p e : Page) where
   pub each-next : (d : A) (q : Page) → i < length xs → q ≡ put p (f (getD xs i d)) → put p (each f (drop i xs)) ≡ e

@@ -1,12 +1,12 @@
--- `listing::put::put_value` meets its contract: each arm is a clause of `valueBytes`.
+-- `layout::rows::put_value` meets its contract: each arm is a clause of `valueBytes`.
 -- Assumes nothing.
 use mathlib.Core.Path.{refl}
 use mir.Syntax.{w64}
 use mir.Facts.{toZ-ofZ}
 use Rattle.page.specs.Page.{put}
 use borrow.Author.Needs.{needs}
-use Rattle.listing.proofs.put.put_value.Statement.{statement}
-use Rattle.listing.proofs.put.put_value.Tie as tie
+use Rattle.layout.proofs.rows.put_value.Statement.{statement}
+use Rattle.layout.proofs.rows.put_value.Tie as tie
 
 enum-known-value : tie.Need-enum-known-value
 enum-known-value c = search needs

@@ -1,15 +1,15 @@
--- `listing::put::put_rows` meets its contract. The loop's invariant: with the rows that are left, the page is as all rows leave it.
+-- `layout::rows::put_rows` meets its contract. The loop's invariant: with the rows that are left, the page is as all rows leave it.
 -- Assumes nothing.
 use Prim.Native.Nat.{_-_, _≤_}
 use mathlib.Core.Path.{_≡_}
 use native.Mathlib.Omega.{arith}
 use lib.ListN.{length, drop}
-use Rattle.listing.specs.Row.{rowBytes, rowsBytes}
+use Rattle.layout.specs.Row.{rowBytes, rowsBytes}
 use Rattle.page.specs.Page.{put, page}
-use Rattle.listing.proofs.Laws.Each.{each-next, each-done}
+use Rattle.layout.proofs.Laws.Each.{each-next, each-done}
 use borrow.Author.Needs.{needs}
-use Rattle.listing.proofs.put.put_rows.Statement.{statement}
-use Rattle.listing.proofs.put.put_rows.Tie as tie
+use Rattle.layout.proofs.rows.put_rows.Statement.{statement}
+use Rattle.layout.proofs.rows.put_rows.Tie as tie
 
 abbrev Inv-loop : tie.InvT-loop
 Inv-loop out₀ at line rows next₀ i₀ out next i =

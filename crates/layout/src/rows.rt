@@ -1,6 +1,6 @@
-// How the rows of a listing are put.
+// How the rows of a record are put.
 ghost use mathlib.Core.Path.{_≡_};
-ghost use Rattle.listing.specs.Row as specs;
+ghost use Rattle.layout.specs.Row as specs;
 ghost use Rattle.page.specs.Page.{page, put};
 use line::text::Character;
 use line::text::Field;

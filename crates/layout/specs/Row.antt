@@ -11,7 +11,7 @@ use Rattle.line.specs.declared.text.Character.the-variants.{At, Unreached, Abse
 use Rattle.line.specs.declared.text.Field.{Field}
 use Rattle.line.specs.declared.text.Field.the-variants as field
 use Rattle.page.specs.Numerals.{decimal, signedDecimal, hex16, escaped}
-use Rattle.listing.specs.Each.{each}
+use Rattle.layout.specs.Each.{each}
 use Rattle.row.specs.declared.Row.{Row}
 use Rattle.row.specs.declared.Value.{Value}
 use Rattle.row.specs.declared.Value.the-variants.{Unsigned, Signed, Real, Words, One, Flag, Nothing}

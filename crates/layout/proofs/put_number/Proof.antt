@@ -1,10 +1,10 @@
--- `listing::put_number` meets its contract: the calls put the parts of `numberRow` one behind the other.
+-- `layout::put_number` meets its contract: the calls put the parts of `numberRow` one behind the other.
 -- Assumes nothing.
-use Rattle.listing.specs.Listing.{numberRow}
+use Rattle.layout.specs.Label.{numberRow}
 use Rattle.page.proofs.Laws.Page.{put-then}
 use borrow.Author.Needs.{needs}
-use Rattle.listing.proofs.put_number.Statement.{statement}
-use Rattle.listing.proofs.put_number.Tie as tie
+use Rattle.layout.proofs.put_number.Statement.{statement}
+use Rattle.layout.proofs.put_number.Tie as tie
 
 put-bytes-requires : tie.Need-put-bytes-requires
 put-bytes-requires c κs = search needs
