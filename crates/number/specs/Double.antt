@@ -1,5 +1,5 @@
--- "The powers 10^0 to 10^9 stand as typed-in doubles", and "bytes `-0` give negative zero": the double is one division of M by a power of ten,
--- with the sign put on.
+-- "Work each one out by multiplying by ten as a whole number and converting once" (2026-04, of the powers 10^0 to 10^9), and "bytes `-0` give
+-- negative zero": the double is one division of M by a power of ten, with the sign put on.
 use Prim.Native.Nat.{ℕ, _^_}
 use mathlib.Core.Bool.{Bool, true, false}
 use lib.IntN.{pos}

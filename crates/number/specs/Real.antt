@@ -1,5 +1,5 @@
 -- What a text says as R, and as one of ANISOU's six: "I, each made a double and divided by 10000.0".
-use Prim.Native.Nat.{ℕ}
+use Prim.Native.Nat.{ℕ, _^_}
 use mathlib.Core.Bool.{cond}
 use mathlib.Core.List.{List}
 use lib.ListN.{length}
@@ -24,9 +24,9 @@ realFrom (Plain minus m p) = R (doubleOf minus m p)
 unfoldable pub realOf : List ℕ → Real
 realOf t = realFrom (decimalOf t)
 
--- an integer made a double and divided by 10000.0
+-- an integer made a double and divided by 10000.0, which is 10 ^ 4 converted
 unfoldable pub tenThousandth : ℤ → Float
-tenThousandth n = div binary64 (ofInt binary64 n) (ofInt binary64 (pos 10000))
+tenThousandth n = div binary64 (ofInt binary64 n) (ofInt binary64 (pos (10 ^ 4)))
 
 abbrev pub tenThousandthsFrom : Signed → Real
 tenThousandthsFrom NotI = NotR

@@ -1,5 +1,5 @@
-// The doubles of written numbers: one division by a power of ten that is typed in, and the sign put on. Ten
-// powers are exact as doubles, so the quotient is rounded once.
+// The doubles of written numbers: one division by a power of ten, and the sign put on. A power is multiplied out
+// as a whole number and converted once. Those of p up to 9 are exact as doubles, so the quotient is rounded once.
 ghost use mathlib.Core.Path.{_≡_};
 ghost use Prim.Native.Nat.{_≤_, _<_, _^_};
 ghost use lib.IntN.{pos, natAbs};
@@ -18,23 +18,40 @@ pub enum Real {
     NotR,
 }
 
-// The powers of ten from 10^0 to 10^9.
+// 10^p as a whole number: one, p times multiplied by ten.
+fn ten_to(p: usize) -> u64
+    requires { ⌜ p ≤ 9 ⌝ }
+    ensures { λ r. ⌜ r ≡ 10 ^ p ⌝ }
+{
+    let mut n = 1;
+    let mut i = 0;
+    while i < p {
+        n *= 10;
+        i += 1;
+    }
+    n
+}
+
+// 10^p as a double.
+fn converted(p: usize) -> f64
+    requires { ⌜ p ≤ 9 ⌝ }
+    ensures { λ r. ⌜ r ≡ ofInt binary64 (pos (10 ^ p)) ⌝ }
+{
+    (ten_to(p) as i64) as f64
+}
+
+// The same. Most reals have three places or two: where the number is known beforehand, the compiler multiplies it out.
 fn power(p: usize) -> f64
     requires { ⌜ p ≤ 9 ⌝ }
     ensures { λ r. ⌜ r ≡ ofInt binary64 (pos (10 ^ p)) ⌝ }
 {
-    match p {
-        0 => 1.0,
-        1 => 10.0,
-        2 => 100.0,
-        3 => 1000.0,
-        4 => 10000.0,
-        5 => 100000.0,
-        6 => 1000000.0,
-        7 => 10000000.0,
-        8 => 100000000.0,
-        _ => 1000000000.0,
+    if p == 3 {
+        return converted(3);
     }
+    if p == 2 {
+        return converted(2);
+    }
+    converted(p)
 }
 
 // M over 10^p, with its sign. M goes by way of a signed integer, which a machine makes a double of in one step.
@@ -81,12 +98,12 @@ pub fn read_real(text: &[u8]) -> Real
     }
 }
 
-// An integer made a double and divided by 10000.0.
+// An integer made a double and divided by that of 10^4.
 fn ten_thousandth(n: i64) -> f64
     requires { ⌜ natAbs n < 10 ^ 10 ⌝ }
     ensures { λ r. ⌜ r ≡ specs.tenThousandth n ⌝ }
 {
-    (n as f64) / 10000.0
+    (n as f64) / power(4)
 }
 
 // An integer of up to seven columns, in ten-thousandths: more columns could say a number that no double holds.

@@ -4,8 +4,9 @@
 --     choose, pass                      what a test chooses, when it holds and when it can't
 --     chosen                            a result that is not the second was chosen: the test holds
 --     clash                             no test holds and fails
+--     none-below                        what a `match` leaves to its last arm
 -- Assumes nothing.
-use Prim.Native.Nat.{ℕ}
+use Prim.Native.Nat.{ℕ, zero, suc, zero-le, _≤_}
 use mathlib.Core.Path.{_≡_, refl}
 use native.Mathlib.Omega.{arith}
 use mathlib.Core.Bool.{Bool, true, false, cond, _&&_}
@@ -38,3 +39,12 @@ chosen false x y e n = absurd (let z = n e in omega arith)
 
 pub clash : {b : Bool} → b ≡ true → b ≡ false → ⊥
 clash p q = let z : _≡_ {A = ℕ} 0 1 = cc in omega arith
+
+-- p is none of the numbers below k, as a `match` leaves it, so it is k at least
+abbrev pub NoneBelow : ℕ → ℕ → Type 0
+NoneBelow zero p = Unit
+NoneBelow (suc k) p = NoneBelow k p × (p ≡ k → ⊥)
+
+pub none-below : (k p : ℕ) → NoneBelow k p → k ≤ p
+none-below zero p h = zero-le
+none-below (suc k) p (h, n) = let l = none-below k p h in omega arith

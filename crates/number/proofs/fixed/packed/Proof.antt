@@ -1,7 +1,7 @@
 -- `number::fixed::packed` meets its contract: each arm types in the number of its shape, and seven or more is what the arms leave.
 -- Assumes nothing.
 use mathlib.Core.Path.{refl, ap}
-use Rattle.number.proofs.Laws.Powers.{none-below}
+use Rattle.number.proofs.Laws.Choice.{none-below}
 use Rattle.number.proofs.Laws.Shape.{last-shape}
 use Rattle.number.specs.Fixed.{packedOf}
 use Rattle.number.proofs.fixed.packed.Statement.{statement}
