@@ -9,13 +9,13 @@ use lib.Dec.{ltb}
 use lib.IntN.{ℤ, pos}
 use lib.Ieee.{Float, fin}
 use Rattle.number.specs.Whole.{unsignedOf, signedOf}
-use Rattle.number.specs.Real.{realOf, tenThousandthsOf}
+use Rattle.real.specs.Real.{realOf, tenThousandthsOf}
 use Rattle.number.specs.declared.whole.Unsigned.{Unsigned}
 use Rattle.number.specs.declared.whole.Unsigned.the-variants.{U, NotU}
 use Rattle.number.specs.declared.whole.Signed.{Signed}
 use Rattle.number.specs.declared.whole.Signed.the-variants.{I, NotI}
-use Rattle.number.specs.declared.real.Real.{Real}
-use Rattle.number.specs.declared.real.Real.the-variants.{R, NotR}
+use Rattle.real.specs.declared.Real.{Real}
+use Rattle.real.specs.declared.Real.the-variants.{R, NotR}
 use Rattle.line.specs.Columns.{partOf, restOf}
 use Rattle.line.specs.declared.columns.Columns.{Columns}
 use Rattle.line.specs.declared.fault.Sort.{Sort}

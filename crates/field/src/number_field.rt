@@ -9,13 +9,13 @@ use line::fault::Fault;
 use line::fault::FaultKind;
 use line::fault::Faults;
 use line::fault::Sort;
-use number::real::Real;
-use number::real::read_real;
-use number::real::read_ten_thousandths;
 use number::whole::Signed;
 use number::whole::Unsigned;
 use number::whole::read_signed;
 use number::whole::read_unsigned;
+use real::Real;
+use real::read_real;
+use real::read_ten_thousandths;
 
 // A field's value, and whether the field is fine: no fault is noted of it.
 pub struct FineUnsigned {

@@ -2,9 +2,4 @@
 pub mod Trim
 pub mod Whole
 pub mod Decimal
-pub mod Sign
-pub mod Double
-pub mod Real
-pub mod Near
 pub mod Grammar
-pub mod Fixed

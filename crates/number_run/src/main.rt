@@ -3,9 +3,6 @@
 // ten-thousandths, T as place and length, and E as the length that end-trimming leaves. `-` stands for a refusal.
 use number::decimal::Decimal;
 use number::decimal::read_decimal;
-use number::real::Real;
-use number::real::read_real;
-use number::real::read_ten_thousandths;
 use number::trim::read_text;
 use number::trim::trim_end;
 use number::whole::Signed;
@@ -14,6 +11,9 @@ use number::whole::read_signed;
 use number::whole::read_unsigned;
 use page::bits_of;
 use page::put_hex;
+use real::Real;
+use real::read_real;
+use real::read_ten_thousandths;
 
 fn put(text: &[u8]) {
     io::write_all(libc::STDOUT_FILENO, text);

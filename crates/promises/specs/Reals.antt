@@ -12,8 +12,8 @@ use lib.IntN.{natAbs}
 use lib.Ieee.{Float}
 use Rattle.number.specs.Whole.{signedOf}
 use Rattle.number.specs.Decimal.{decimalOf}
-use Rattle.number.specs.Near.{Near}
-use Rattle.number.specs.Sign.{below}
+use Rattle.real.specs.Near.{Near}
+use Rattle.real.specs.Sign.{below}
 use Rattle.number.specs.declared.whole.Signed.{Signed}
 use Rattle.number.specs.declared.whole.Signed.the-variants.{I, NotI}
 use Rattle.number.specs.declared.decimal.Decimal.{Decimal}

@@ -21,12 +21,12 @@ use mir.Facts.{toZ-ofZ}
 use Rattle.number.specs.Trim.{leading, kept, trimmed, endTrimmed, spanOf}
 use Rattle.number.specs.Whole.{digit, digits, begins, afterPlus, afterSign, digitsOf, unsignedOf, signedDigits, signedOf, withSign}
 use Rattle.number.specs.Decimal.{beforePoint, behindPoint, withoutPoint, plainOf, decimalOf}
-use Rattle.number.specs.Real.{realOf, tenThousandthsOf}
+use Rattle.real.specs.Real.{realOf, tenThousandthsOf}
 use Rattle.number.specs.declared.trim.Span.{Span}
 use Rattle.number.specs.declared.whole.Unsigned.the-variants.{NotU}
 use Rattle.number.specs.declared.whole.Signed.{Signed}
 use Rattle.number.specs.declared.whole.Signed.the-variants.{I, NotI}
-use Rattle.number.specs.declared.real.Real.the-variants.{NotR}
+use Rattle.real.specs.declared.Real.the-variants.{NotR}
 use Rattle.number.proofs.Laws.Trim.{leading-le}
 use Rattle.number.proofs.Laws.Width.{signed-fits}
 use Rattle.line.specs.Columns.{partOf}

@@ -8,8 +8,8 @@ use lib.Ieee.{div, neg, ofInt, ofBits}
 use Rattle.number.specs.Trim.{white, leading, kept, endTrimmed, trimmed, spanOf}
 use Rattle.number.specs.Whole.{digit, digits, valueFrom, begins, afterPlus, afterSign, digitsOf, unsignedOf, signedDigits, signedOf}
 use Rattle.number.specs.Decimal.{beforePoint, behindPoint, withoutPoint, plainOf, decimalOf}
-use Rattle.number.specs.Double.{doubleOf}
-use Rattle.number.specs.Real.{realOf, tenThousandth, tenThousandthsOf}
+use Rattle.real.specs.Double.{doubleOf}
+use Rattle.real.specs.Real.{realOf, tenThousandth, tenThousandthsOf}
 use Rattle.line.specs.Columns.{partOf, reachedOf, restOf}
 use Rattle.line.specs.Faults.{noFaults, noted, listed}
 use Rattle.field.specs.Number.{numberFaults, unsignedAt, signedAt, realAt, factorAt, unsignedFrom, unsignedFromFaults}

@@ -16,7 +16,7 @@ use lib.Dec.{T}
 use lib.Ieee.{binary64, toBits, ofBits}
 use lib.Ieee.Scale.{finite}
 use lib.Ieee.Bits.{ofBits-toBits}
-use Rattle.number.proofs.Laws.Tells.{near-tells, near-finite}
+use Rattle.real.proofs.Laws.Tells.{near-tells, near-finite}
 use Rattle.line.specs.Faults.{listed}
 use Rattle.lexitem.specs.declared.answer.Outcome.the-variants.{Accepted}
 use Rattle.lexitem.specs.declared.item.LexItem.{LexItem}

@@ -17,17 +17,17 @@ use lib.IntN.{ℤ, pos, natAbs}
 use lib.Ieee.{Float, binary64, fits, div, ofInt}
 use lib.Ieee.Fits.{div-fits, neg-fits}
 use Rattle.number.specs.Whole.{signedOf}
-use Rattle.number.specs.Double.{signPut, doubleOf}
-use Rattle.number.specs.Near.{Near}
-use Rattle.number.specs.Real.{tenThousandthsFrom, tenThousandthsOf, tenThousandth}
-use Rattle.number.specs.Sign.{below}
+use Rattle.real.specs.Double.{signPut, doubleOf}
+use Rattle.real.specs.Near.{Near}
+use Rattle.real.specs.Real.{tenThousandthsFrom, tenThousandthsOf, tenThousandth}
+use Rattle.real.specs.Sign.{below}
 use Rattle.number.specs.declared.whole.Signed.{Signed}
 use Rattle.number.specs.declared.whole.Signed.the-variants.{I, NotI}
 use Rattle.number.specs.declared.decimal.Decimal.{Decimal}
 use Rattle.number.specs.declared.decimal.Decimal.the-variants.{Plain, NotPlain}
-use Rattle.number.specs.declared.real.Real.{Real}
-use Rattle.number.specs.declared.real.Real.the-variants.{R, NotR}
-use Rattle.number.proofs.Laws.Real.{real-is, real-not, decimal-near, ten-thousandths-near}
+use Rattle.real.specs.declared.Real.{Real}
+use Rattle.real.specs.declared.Real.the-variants.{R, NotR}
+use Rattle.real.proofs.Laws.Real.{real-is, real-not, decimal-near, ten-thousandths-near}
 use Rattle.number.proofs.Laws.Width.{signed-within, decimal-limits}
 use Rattle.line.specs.Columns.{partOf}
 use Rattle.line.specs.declared.columns.Columns.{Columns}

@@ -12,7 +12,7 @@ use borrow.Author.Tests.{eq-eqb}
 use lib.ListN.{length, getD}
 use lib.Dec.{ltb, eqb}
 use Rattle.number.specs.Whole.{digit, unsignedOf, signedOf}
-use Rattle.number.specs.Real.{realOf, tenThousandthsOf}
+use Rattle.real.specs.Real.{realOf, tenThousandthsOf}
 use Rattle.line.specs.Columns.{partOf, restOf}
 use Rattle.line.specs.declared.columns.Columns.{Columns}
 use Rattle.line.specs.declared.fault.Fault.{Fault}

@@ -16,8 +16,8 @@ use lib.ListN.{length}
 use lib.Dec.{leb, eqb}
 use lib.Ieee.{Float}
 use lib.Ieee.Scale.{finite}
-use Rattle.number.specs.Real.{realOf, tenThousandthsOf}
-use Rattle.number.specs.declared.real.Real.{Real}
+use Rattle.real.specs.Real.{realOf, tenThousandthsOf}
+use Rattle.real.specs.declared.Real.{Real}
 use Rattle.number.proofs.Laws.Choice.{and-left, and-right}
 use Rattle.line.specs.Columns.{partOf}
 use Rattle.line.specs.Given.{Given}

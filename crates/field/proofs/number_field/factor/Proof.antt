@@ -5,7 +5,7 @@ use denote.Ref.{now}
 use lib.Ieee.{ofBits}
 use Rattle.field.specs.Number.{numberFaults, factorAt}
 use Rattle.field.proofs.Laws.Fields.{part-short, factor-none}
-use Rattle.number.specs.Real.{tenThousandthsOf}
+use Rattle.real.specs.Real.{tenThousandthsOf}
 use borrow.Author.Needs.{needs}
 use Rattle.field.proofs.number_field.factor.Statement.{statement}
 use Rattle.field.proofs.number_field.factor.Tie as tie

@@ -4,7 +4,7 @@ use mathlib.Core.Path.{refl, sym, ap, _∙_}
 use denote.Ref.{now}
 use Rattle.field.specs.Number.{numberFaults, realAt}
 use Rattle.field.proofs.Laws.Fields.{part-short, real-none}
-use Rattle.number.specs.Real.{realOf}
+use Rattle.real.specs.Real.{realOf}
 use borrow.Author.Needs.{needs}
 use Rattle.field.proofs.number_field.fine_real.Statement.{statement}
 use Rattle.field.proofs.number_field.fine_real.Tie as tie

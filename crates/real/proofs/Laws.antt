@@ -1,0 +1,13 @@
+-- The laws of the words in specs/. Word, Shape and Fixed are of texts, and prove the quick reading. Apart to Powers are of doubles, and end in
+-- the distance and in what a double tells. Real is what callers and readers cite.
+pub mod Word
+pub mod Shape
+pub mod Fixed
+pub mod Apart
+pub mod Halves
+pub mod Kept
+pub mod Value
+pub mod Quotient
+pub mod Tells
+pub mod Powers
+pub mod Real

@@ -1,0 +1,37 @@
+-- What a text says as R, and as one of ANISOU's six: "I, each made a double and divided by 10000.0".
+use Prim.Native.Nat.{ℕ, _^_}
+use mathlib.Core.Bool.{cond}
+use mathlib.Core.List.{List}
+use lib.ListN.{length}
+use lib.Dec.{leb}
+use lib.IntN.{ℤ, pos}
+use lib.Ieee.{Float, binary64, div, ofInt}
+use Rattle.number.specs.Whole.{signedOf}
+use Rattle.number.specs.Decimal.{decimalOf}
+use Rattle.real.specs.Double.{doubleOf}
+use Rattle.number.specs.declared.whole.Signed.{Signed}
+use Rattle.number.specs.declared.whole.Signed.the-variants.{I, NotI}
+use Rattle.number.specs.declared.decimal.Decimal.{Decimal}
+use Rattle.number.specs.declared.decimal.Decimal.the-variants.{Plain, NotPlain}
+use Rattle.real.specs.declared.Real.{Real}
+use Rattle.real.specs.declared.Real.the-variants.{R, NotR}
+
+abbrev pub realFrom : Decimal → Real
+realFrom NotPlain = NotR
+realFrom (Plain minus m p) = R (doubleOf minus m p)
+
+-- what a text says as R
+unfoldable pub realOf : List ℕ → Real
+realOf t = realFrom (decimalOf t)
+
+-- an integer made a double and divided by 10000.0, which is 10 ^ 4 converted
+unfoldable pub tenThousandth : ℤ → Float
+tenThousandth n = div binary64 (ofInt binary64 n) (ofInt binary64 (pos (10 ^ 4)))
+
+abbrev pub tenThousandthsFrom : Signed → Real
+tenThousandthsFrom NotI = NotR
+tenThousandthsFrom (I n) = R (tenThousandth n)
+
+-- what a text of up to seven columns says in ten-thousandths; one of more columns says nothing
+unfoldable pub tenThousandthsOf : List ℕ → Real
+tenThousandthsOf t = cond (leb (length t) 7) (tenThousandthsFrom (signedOf t)) NotR
