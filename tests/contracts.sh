@@ -47,7 +47,7 @@ form() {
             is_given "$right" || { echo "has an equation that needn't fix its page"; return 1; }
             echo page
             ;;
-        'into.ListedInto '* | 'specs.WrittenInto '* | 'specs.Told '* | 'specs.Fills '*) echo named ;;
+        'into.ListedInto '* | 'specs.WrittenInto '* | 'specs.Told '* | 'specs.Fills '* | 'specs.Puts '*) echo named ;;
         '(r .file ≡ '*' × (r .at ≡ '*) echo fields ;;
         *) echo "has no contract of a known form"; return 1 ;;
     esac

@@ -1,6 +1,7 @@
 // Runs the readers of `number` on texts. Standard input is cut at LF; for each text that an LF ends, one line says
 // what every reader makes of it: U, I, R as the bits of its double, D as sign, M and p, A as the bits of its
-// ten-thousandths, T as place and length, and E as the length that end-trimming leaves. `-` stands for a refusal.
+// ten-thousandths, T as place and length, and E as the length that end-trimming leaves. `-` stands for a refusal. W
+// is the double of R as `cell` puts it into columns, with `!` behind it where it doesn't fit.
 use number::decimal::Decimal;
 use number::decimal::read_decimal;
 use number::trim::read_text;
@@ -108,6 +109,33 @@ fn put_e(text: &[u8]) {
     put_number(trim_end(text).len() as u64);
 }
 
+// A double in so many columns.
+fn put_cell(x: f64, width: usize, places: usize) {
+    let mut bytes = [0u8; 10];
+    let cell = cell::put_real(&mut bytes, 0, width, places, x);
+    put(b"[");
+    if cell.next <= 10 {
+        put(&bytes[..cell.next]);
+    }
+    put(b"]");
+    if !cell.fits {
+        put(b"!");
+    }
+}
+
+// In the columns and places of a coordinate, of a B factor, and of a row of a matrix.
+fn put_w(text: &[u8]) {
+    put(b" W=");
+    match read_real(text) {
+        Real::R(x) => {
+            put_cell(x, 8, 3);
+            put_cell(x, 6, 2);
+            put_cell(x, 10, 6);
+        }
+        Real::NotR => put(b"-"),
+    }
+}
+
 fn put_line(text: &[u8]) {
     put_u(text);
     put_i(text);
@@ -116,6 +144,7 @@ fn put_line(text: &[u8]) {
     put_a(text);
     put_t(text);
     put_e(text);
+    put_w(text);
     put(b"\n");
 }
 

@@ -88,7 +88,7 @@ module _ (n : ℕ) (small : n < 2 ^ 64) where
     decimal-short 20 (omega arith) (omega arith),
   )
 
-  between : Between 48 57 (decimal n)
+  pub between : Between 48 57 (decimal n)
   between =
       holds (λ n t r. Between 48 57 t → Between 48 57 r) (λ n t l w. ((omega arith, omega arith), w))
       (λ n t r l below w. below ((omega arith, omega arith), w)) tt

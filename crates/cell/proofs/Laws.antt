@@ -1,0 +1,11 @@
+-- The laws of the words in specs/. Power to Bits are of doubles, Text and Back of what is written and reads back, Put and Cell of how it is put.
+pub mod Power
+pub mod Closest
+pub mod Places
+pub mod Scaled
+pub mod Bits
+pub mod Text
+pub mod Back
+pub mod Put
+pub mod Cell
+pub mod One

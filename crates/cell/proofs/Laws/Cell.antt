@@ -1,0 +1,75 @@
+-- Laws of a number in so many columns.
+--     puts-fit, puts-not     what a put of a text answers, by the text's length
+--     cell-back              a double that was read of M over 10 ^ p, with no more places than are written, reads back as the same double
+--     factor-cell            one of ANISOU's six reads back as the same integer
+--     sign-held              a number of up to ten digits comes back from its bits with its sign
+--     cell-again             what is read of any double's cell is written as the same cell
+-- Assumes nothing.
+use mathlib.Core.Path.{_≡_, refl, sym, _∙_}
+use Prim.Native.Nat.{ℕ, _-_, _*_, _^_, _≤_, _<_}
+use mathlib.Core.Bool.{Bool, true, false}
+use mathlib.Core.List.{List}
+use borrow.Author.Tests.{le-leb, lt-leb, leb-true}
+use native.Mathlib.Omega.{arith}
+use mir.Syntax.{w64}
+use mir.Val.{toZ, ofZ}
+use mir.Facts.{toZ-ofZ}
+use lib.ListN.{length}
+use lib.Dec.{lit≤}
+use lib.IntN.{ℤ, pos, negsuc, natAbs}
+use lib.Ieee.{Float}
+use Rattle.page.specs.Numerals.{signedDecimal}
+use Rattle.number.specs.Whole.{withSign, signedOf}
+use Rattle.number.specs.declared.whole.Signed.the-variants.{I}
+use Rattle.number.proofs.Laws.Signed.{minus-fits}
+use Rattle.real.specs.Double.{doubleOf}
+use Rattle.real.specs.Real.{realOf, tenThousandth}
+use Rattle.real.specs.Sign.{below}
+use Rattle.real.specs.declared.Real.the-variants.{R}
+use Rattle.page.specs.Page.{Page, page, put}
+use Rattle.cell.specs.Cell.{fitting, texted, realBytes, factorBytes, Puts}
+use Rattle.cell.specs.Places.{placesOf}
+use Rattle.cell.specs.Text.{blanks, right, fixed}
+use Rattle.cell.specs.declared.places.Places.the-variants.{Rounded}
+use Rattle.cell.proofs.Laws.Back.{signed-back, factor-back}
+use Rattle.cell.proofs.Laws.Places.{placed, places-are}
+use Rattle.cell.proofs.Laws.Text.{real-back, real-again}
+
+module _ (p : Page) (w : ℕ) (t : List ℕ) (next : ℕ) (after : List ℕ) where
+  pub puts-fit : length t ≤ w → page after next ≡ put p (right w t) → Puts p (texted w t) (fitting w t) after (record { next = next; fits = true })
+  unfolding texted fitting
+  puts-fit h e = record { puts = rw (le-leb (length t) w h) e; tells = sym (le-leb (length t) w h) }
+
+  pub puts-not : w < length t → page after next ≡ put p (blanks w) → Puts p (texted w t) (fitting w t) after (record { next = next; fits = false })
+  unfolding texted fitting
+  puts-not h e = record { puts = rw (lt-leb (length t) w h) e; tells = sym (lt-leb (length t) w h) }
+
+-- ---- a real that was written is read
+pub cell-back : (s : Bool) (m p q w : ℕ) → m < 10 ^ 10 → p ≤ q → q ≤ 9 → m * 10 ^ (q - p) < 10 ^ 10
+    → length (fixed q s (m * 10 ^ (q - p))) ≤ w → w ≤ 10 → realOf (realBytes w q (placesOf q (doubleOf s m p))) ≡ R (doubleOf s m p)
+unfolding placesOf texted fitting
+cell-back s m p q w few short long fit h k =
+    let (rounded, read) = real-back s m p q w few short long fit h k in
+    rw (le-leb q 9 long, rounded, le-leb (length (fixed q s (m * 10 ^ (q - p)))) w h) read
+
+pub cell-again : (q w : ℕ) (x : Float) (s : Bool) (n : ℕ) → placesOf q x ≡ Rounded s n → fitting w (fixed q s n) ≡ true → w ≤ 10
+    → (realOf (realBytes w q (placesOf q x)) ≡ R (doubleOf s n q)) × (placesOf q (doubleOf s n q) ≡ placesOf q x)
+unfolding fitting texted
+cell-again q w x s n e f k =
+    let (long, rounded) = placed q x s n e in
+    let (read, again) = real-again q x s n w long rounded (leb-true (length (fixed q s n)) w f) k in
+    rw e (rw f read, places-are q (doubleOf s n q) long ∙ again)
+
+-- ---- an integer of so many places
+pub sign-held : (s : Bool) (n : ℕ) → n < 10 ^ 10 → toZ w64 (ofZ w64 (withSign s n)) ≡ withSign s n
+sign-held false n h = toZ-ofZ {w = w64} (record { sfits = omega arith })
+sign-held true n h = toZ-ofZ {w = w64} (minus-fits n (omega arith))
+
+sign-is : (z : ℤ) → withSign (below z) (natAbs z) ≡ z
+sign-is (pos n) = refl
+sign-is (negsuc n) = refl
+
+pub factor-cell : (w : ℕ) (z : ℤ) → natAbs z < 10 ^ 10 → fitting w (signedDecimal z) ≡ true
+    → signedOf (factorBytes w (placesOf 4 (tenThousandth z))) ≡ I z
+unfolding texted
+factor-cell w z few fit = rw (places-are 4 (tenThousandth z) (lit≤ tt), factor-back z few, sign-is z, fit) (signed-back w z (omega arith))

@@ -1,0 +1,55 @@
+-- `cell::text::put_blanks` meets its contract. The loop's invariant: with the blanks that are left, the page is as all blanks leave it.
+-- Assumes nothing.
+use mathlib.Core.Path.{_≡_}
+use lib.ListN.{length}
+use borrow.Author.Needs.{needs}
+use Rattle.page.specs.Page.{page, put}
+use Rattle.cell.specs.Text.{blanks}
+use Rattle.cell.proofs.Laws.Put.{blanks-next, blanks-done}
+use Rattle.cell.proofs.text.put_blanks.Statement.{statement}
+use Rattle.cell.proofs.text.put_blanks.Tie as tie
+
+abbrev Inv-loop : tie.InvT-loop
+Inv-loop out₀ at n next₀ left₀ out next left =
+    (length out ≡ length out₀) × (put (page out next) (blanks left) ≡ put (page out₀ at) (blanks n))
+
+abbrev μ-loop : tie.MeasureT-loop
+μ-loop out₀ at n next₀ left₀ out next left = left
+
+loop-holds : tie.Need-loop-holds Inv-loop μ-loop
+loop-holds c = search needs
+
+put-byte-requires : tie.Need-put-byte-requires Inv-loop μ-loop
+put-byte-requires c κs = search needs
+
+sub-left : tie.Need-sub-left Inv-loop μ-loop
+sub-left c = search needs
+
+loop-less : tie.Need-loop-less Inv-loop μ-loop
+loop-less c = search needs
+
+loop-again : tie.Need-loop-again Inv-loop μ-loop
+loop-again c =
+    let inside = c .before .before .before .before in
+    let l = inside .before .loop in
+    (search needs, blanks-next _ _ _ _ (inside .loop-test .taken) (c .before .before .put-byte .ensures) (l .inv .1))
+
+same-length : tie.Need-same-length Inv-loop μ-loop
+same-length c = search needs
+
+returns : tie.Need-returns Inv-loop μ-loop
+returns c = blanks-done _ _ _ (c .loop-test .left) (c .before .loop .inv .1)
+
+pub put-blanks-spec : {M : Type 1} → statement M
+put-blanks-spec =
+    tie.close
+    (tie.spec
+    Inv-loop
+    μ-loop
+    loop-holds
+    put-byte-requires
+    sub-left
+    loop-less
+    loop-again
+    same-length
+    returns)
