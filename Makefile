@@ -17,7 +17,7 @@ help:
 	@echo 'make list FILE=..        lists the lines of a PDB file, and what could not be read of them'
 	@echo 'make test                everything that is checked: proofs, must-fail edits, test programs, C hosts, a short differential run'
 	@echo 'make install PREFIX=..   the program, the C header and the static library, with a file for pkg-config'
-	@echo 'make differential        ten million lines, compared with the Rust (needs rustc, see differential/README.md)'
+	@echo 'make differential        ten million lines and a million written records, compared with the Rust (needs rustc, see differential/README.md)'
 	@echo 'make bench               how quick it is beside the Rust and plain C (needs rustc and cc, see docs/SPEED.md)'
 	@echo 'make format              the layout of the sources alone'
 	@echo 'make oracle              builds the Rust as an oracle and runs its own tests'
@@ -76,6 +76,7 @@ oracle:
 differential: $(server)
 	@differential/build.sh
 	@target/differential/differential --file examples/zinc.pdb -- tools/run $(server)
+	@target/differential/differential --write --file examples/zinc.pdb -- tools/run $(server)
 
 bench:
 	@bench/run.sh

@@ -4,7 +4,7 @@
 #   build.sh [--unchecked] [--test] [-o PROGRAM]
 #
 # --unchecked     no overflow checks and no debug assertions, as in a release build of the Rust
-# --test          builds the tests of the oracle and runs them
+# --test          builds the tests of the oracle and of the writer, and runs them
 # -o PROGRAM      where the program goes; otherwise target/differential/differential
 #
 # PDBTBX_SRC      the folder with src/read/pdb/lexer.rs; otherwise ../shared/docs/src beside the repository

@@ -1,5 +1,6 @@
 #!/bin/bash
-# A million lines compared with the Rust, where rustc and the Rust's files are there. Wants target/bin/serve. See README.md.
+# A million lines compared with the Rust, and a hundred thousand records that are written, where rustc and the Rust's files are there. Wants
+# target/bin/serve. See README.md.
 set -eu
 cd "$(dirname "${BASH_SOURCE[0]}")/.."
 . tests/have.sh
@@ -10,9 +11,16 @@ if why=$(missing rust); then
 fi
 log=$(mktemp)
 trap 'rm -f "$log"' EXIT
-differential/build.sh
-target/differential/differential --short --file examples/zinc.pdb -- tools/run target/bin/serve > "$log" || {
-    cat "$log"
-    exit 1
+
+# The words before the others say which run.
+compare() {
+    target/differential/differential "$@" --short --file examples/zinc.pdb -- tools/run target/bin/serve > "$log" || {
+        cat "$log"
+        exit 1
+    }
+    echo "differential: $(head -n 1 "$log"); $(tail -n 1 "$log")"
 }
-echo "differential: $(head -n 1 "$log"); $(tail -n 1 "$log")"
+
+differential/build.sh
+compare
+compare --write

@@ -1,5 +1,5 @@
 /*
- * saltighedda.h: a line of a PDB file, listed, with what could not be read.
+ * saltighedda.h: a line of a PDB file, listed, with what could not be read; and a record, written as a line.
  *
  * Every entry takes any bytes and any numbers; nothing has to be checked beforehand. A host has one duty: a buffer is a pointer
  * and the number of bytes that are there, the output's bytes are in no other buffer of the call, and nobody else writes to them
@@ -81,6 +81,178 @@ size_t saltighedda_list_place(const uint8_t *line, size_t line_len, size_t numbe
 /* How many columns it is about; for refusal 8, the bytes needed. Returns 0 if there is no refusal. */
 size_t saltighedda_list_length(const uint8_t *line, size_t line_len, size_t number, uint32_t options,
                                const uint8_t *remarks, size_t remarks_len, uint8_t *out, size_t out_len);
+
+/*
+ * Writing. Each of the entries below writes a record as a line of 80 bytes, without a line end, at the front of `out`, in the
+ * columns and decimal places of wwPDB 3.30; what follows the 80 bytes stays as it was. The answer is one number: 0 if the line was
+ * written. Else it is a refusal, and all of `out` is as it was; SALTIGHEDDA_REFUSAL, _PLACE and _LENGTH take it apart:
+ *
+ *     8  `out` has under 80 bytes; the place is 0 and the length 80
+ *     9  a field doesn't fit; the place is its first column, from 0, and the length its number of columns
+ *
+ * Of several fields that don't fit the first by column is told. 9 is tested before 8, so an `out` of 0 bytes asks whether a record
+ * fits: 8 says that it does. A field doesn't fit if it is
+ *
+ *     a whole number with more digits than columns, its minus counted; a charge below -9 or above 9
+ *     a real that has more bytes than columns once it is rounded to its places; a NaN or an infinity
+ *     a text with more bytes than columns, or with a byte outside 32 to 126; an atom's name that hasn't four bytes
+ *     a row above 2, with place 5 and length 1; a `family` or `which` above 2, with place 0 and length 6
+ *
+ * A host's one duty stays the same: `out` is in none of the texts. So a line that is written anew from texts of its own bytes wants
+ * an `out` elsewhere. NULL and 0 are the text without bytes, which goes out as blanks.
+ *
+ * A real goes out as the decimal of its places that is nearest to the double, a tie to the even last digit, with a digit before
+ * the point; its sign is kept, so that -0.0004 in three places is -0.000. `places` asks for other places than the format's: byte n
+ * is how many the n-th real by column gets, from 0, and 0 is without a point. Reals for which it has no byte get the format's, so
+ * NULL and 0 are the format's throughout; bytes for which there is no real have no effect. Nine places and more fit nowhere.
+ *
+ * A segment and a space group stand at the left of their columns, all else at the right. Read again, a written line gives no fault
+ * and the same whole numbers, signs and texts, if the texts have no white space at their ends; an atom's name is then trimmed. A
+ * real that was read from a field of no more places comes back with the same bits.
+ */
+
+/* The bytes of a written line. */
+#define SALTIGHEDDA_LINE 80
+
+/* Number, place and length of a refusal. Of the answer 0 all three are 0. */
+#define SALTIGHEDDA_REFUSAL(r) ((uint32_t)((uint64_t)(r) >> 48))
+#define SALTIGHEDDA_PLACE(r)   ((uint32_t)((uint64_t)(r) >> 32 & 0xFFFF))
+#define SALTIGHEDDA_LENGTH(r)  ((uint32_t)((uint64_t)(r) & 0xFFFFFFFF))
+
+/*
+ * ATOM if `hetero` is 0, else HETATM. `name` is the four bytes of 12..16 as they are to stand there, since a trimmed name has lost
+ * its first column. An alternate location, a chain and an insertion code have one byte, or none and are absent; a chain that is
+ * absent reads back as a blank. A charge is a digit and then its sign, and 0 is two blanks. Five reals: x, y and z have three
+ * places, occupancy and temperature factor two.
+ */
+uint64_t saltighedda_write_atom(uint32_t hetero, uint64_t serial, const uint8_t *name, size_t name_len,
+                                const uint8_t *alternate, size_t alternate_len, const uint8_t *residue, size_t residue_len,
+                                const uint8_t *chain, size_t chain_len, int64_t number, const uint8_t *insertion,
+                                size_t insertion_len, double x, double y, double z, double occupancy, double bfactor,
+                                const uint8_t *segment, size_t segment_len, const uint8_t *element, size_t element_len,
+                                int64_t charge, const uint8_t *places, size_t places_len, uint8_t *out, size_t out_len);
+
+/*
+ * ANISOU. The six go out at four places without the point, as the whole number nearest to 10,000 times the double; a zero is
+ * always `0`, whatever its sign. All else is as in ATOM.
+ */
+uint64_t saltighedda_write_anisou(uint64_t serial, const uint8_t *name, size_t name_len, const uint8_t *alternate,
+                                  size_t alternate_len, const uint8_t *residue, size_t residue_len, const uint8_t *chain,
+                                  size_t chain_len, int64_t number, const uint8_t *insertion, size_t insertion_len, double u11,
+                                  double u22, double u33, double u12, double u13, double u23, const uint8_t *segment,
+                                  size_t segment_len, const uint8_t *element, size_t element_len, int64_t charge, uint8_t *out,
+                                  size_t out_len);
+
+/* CRYST1. Six reals: a, b and c have three places, the angles two. `group` is the space group. */
+uint64_t saltighedda_write_cell(double a, double b, double c, double alpha, double beta, double gamma, const uint8_t *group,
+                                size_t group_len, uint64_t z, const uint8_t *places, size_t places_len, uint8_t *out,
+                                size_t out_len);
+
+/*
+ * A row of SCALE, ORIGX or MTRIX: `family` is 0, 1 or 2, and `row` 0 to 2 for the names that end in 1 to 3. Four reals: a, b and c
+ * have six places, d five. `serial` and `given` are for MTRIX alone and have no effect elsewhere; given is a blank if it is 0, else
+ * `1`.
+ */
+uint64_t saltighedda_write_row(uint32_t family, uint64_t row, uint64_t serial, double a, double b, double c, double d,
+                               uint32_t given, const uint8_t *places, size_t places_len, uint8_t *out, size_t out_len);
+
+/* MODEL, with its number in the format's 10..14. */
+uint64_t saltighedda_write_model(uint64_t number, uint8_t *out, size_t out_len);
+
+/* A name and blanks: TER, ENDMDL or END if `which` is 0, 1 or 2. */
+uint64_t saltighedda_write_bare(uint32_t which, uint8_t *out, size_t out_len);
+
+/*
+ * The same by name: a struct for each family, and a function that hands its members over. A member that an initializer leaves out
+ * is 0 or a text without bytes. The columns count from 0, and a..b excludes b.
+ */
+
+/* Bytes that are lent: a text, or places. */
+struct saltighedda_slice {
+    const uint8_t *bytes;
+    size_t length;
+};
+
+struct saltighedda_atom {
+    uint32_t hetero;                    /* 0..6 */
+    uint64_t serial;                    /* 6..11 */
+    struct saltighedda_slice name;      /* 12..16, all four bytes */
+    struct saltighedda_slice alternate; /* 16..17 */
+    struct saltighedda_slice residue;   /* 17..20 */
+    struct saltighedda_slice chain;     /* 21..22 */
+    int64_t number;                     /* 22..26 */
+    struct saltighedda_slice insertion; /* 26..27 */
+    double x, y, z;                     /* 30..38, 38..46, 46..54 */
+    double occupancy;                   /* 54..60 */
+    double bfactor;                     /* 60..66 */
+    struct saltighedda_slice segment;   /* 72..76, at the left */
+    struct saltighedda_slice element;   /* 76..78 */
+    int64_t charge;                     /* 78..80 */
+    struct saltighedda_slice places;
+};
+
+struct saltighedda_anisou {
+    uint64_t serial;                    /* 6..11 */
+    struct saltighedda_slice name;      /* 12..16, all four bytes */
+    struct saltighedda_slice alternate; /* 16..17 */
+    struct saltighedda_slice residue;   /* 17..20 */
+    struct saltighedda_slice chain;     /* 21..22 */
+    int64_t number;                     /* 22..26 */
+    struct saltighedda_slice insertion; /* 26..27 */
+    double u11, u22, u33;               /* 28..35, 35..42, 42..49 */
+    double u12, u13, u23;               /* 49..56, 56..63, 63..70 */
+    struct saltighedda_slice segment;   /* 72..76, at the left */
+    struct saltighedda_slice element;   /* 76..78 */
+    int64_t charge;                     /* 78..80 */
+};
+
+struct saltighedda_cell {
+    double a, b, c;                 /* 6..15, 15..24, 24..33 */
+    double alpha, beta, gamma;      /* 33..40, 40..47, 47..54 */
+    struct saltighedda_slice group; /* 55..66, at the left */
+    uint64_t z;                     /* 66..70 */
+    struct saltighedda_slice places;
+};
+
+struct saltighedda_row {
+    uint32_t family; /* 0..5: 0 SCALE, 1 ORIGX, 2 MTRIX */
+    uint64_t row;    /* 5..6: 0 to 2, which go out as 1 to 3 */
+    uint64_t serial; /* 7..10, of MTRIX alone */
+    double a, b, c;  /* 10..20, 20..30, 30..40 */
+    double d;        /* 45..55 */
+    uint32_t given;  /* 59..60, of MTRIX alone */
+    struct saltighedda_slice places;
+};
+
+static inline uint64_t saltighedda_put_atom(const struct saltighedda_atom *v, uint8_t *out, size_t out_len)
+{
+    return saltighedda_write_atom(v->hetero, v->serial, v->name.bytes, v->name.length, v->alternate.bytes, v->alternate.length,
+                                  v->residue.bytes, v->residue.length, v->chain.bytes, v->chain.length, v->number,
+                                  v->insertion.bytes, v->insertion.length, v->x, v->y, v->z, v->occupancy, v->bfactor,
+                                  v->segment.bytes, v->segment.length, v->element.bytes, v->element.length, v->charge,
+                                  v->places.bytes, v->places.length, out, out_len);
+}
+
+static inline uint64_t saltighedda_put_anisou(const struct saltighedda_anisou *v, uint8_t *out, size_t out_len)
+{
+    return saltighedda_write_anisou(v->serial, v->name.bytes, v->name.length, v->alternate.bytes, v->alternate.length,
+                                    v->residue.bytes, v->residue.length, v->chain.bytes, v->chain.length, v->number,
+                                    v->insertion.bytes, v->insertion.length, v->u11, v->u22, v->u33, v->u12, v->u13, v->u23,
+                                    v->segment.bytes, v->segment.length, v->element.bytes, v->element.length, v->charge, out,
+                                    out_len);
+}
+
+static inline uint64_t saltighedda_put_cell(const struct saltighedda_cell *v, uint8_t *out, size_t out_len)
+{
+    return saltighedda_write_cell(v->a, v->b, v->c, v->alpha, v->beta, v->gamma, v->group.bytes, v->group.length, v->z,
+                                  v->places.bytes, v->places.length, out, out_len);
+}
+
+static inline uint64_t saltighedda_put_row(const struct saltighedda_row *v, uint8_t *out, size_t out_len)
+{
+    return saltighedda_write_row(v->family, v->row, v->serial, v->a, v->b, v->c, v->d, v->given, v->places.bytes,
+                                 v->places.length, out, out_len);
+}
 
 #ifdef __cplusplus
 }

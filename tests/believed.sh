@@ -10,7 +10,7 @@ trap 'rm -rf "$folder"' EXIT
 lines() {
     awk -v names=" ${*:2} " '
         /^[ \t]*$/ { name = ""; next }
-        /^[ \t]*--/ || /^use / { next }
+        /^[ \t]*--/ || /^use / || /^infix / { next }
         name == "" {
             line = $0
             sub(/^(unfoldable |abbrev )?(pub )?(data |record )?/, "", line)

@@ -47,14 +47,18 @@ form() {
             is_given "$right" || { echo "has an equation that needn't fix its page"; return 1; }
             echo page
             ;;
-        'into.ListedInto '* | 'specs.WrittenInto '* | 'specs.Told '* | 'specs.Fills '* | 'specs.Puts '*) echo named ;;
+        'specs.draft (now (out .exit)) r ≡ '*)
+            is_given "$right" || { echo "has an equation that needn't fix its draft"; return 1; }
+            echo page
+            ;;
+        'into.ListedInto '* | 'specs.WrittenInto '* | 'specs.Told '* | 'specs.Fills '* | 'specs.Puts '* | 'specs.Ends '* | 'sheets.Writes '* | 'specs.Packs '*) echo named ;;
         '(r .file ≡ '*' × (r .at ≡ '*) echo fields ;;
         *) echo "has no contract of a known form"; return 1 ;;
     esac
 }
 
 # Contracts that say nothing have to be seen through.
-for empty in 'r ≡ r' 'r ≡ cond true (r) n' 'page (now (out .exit)) r ≡ put (page (now (out .exit)) r) []' 'r ≡ pick (now (out .exit))' 'r ≡ f n → x'; do
+for empty in 'r ≡ r' 'r ≡ cond true (r) n' 'page (now (out .exit)) r ≡ put (page (now (out .exit)) r) []' 'specs.draft (now (out .exit)) r ≡ specs.draft (now (out .exit)) r' 'r ≡ pick (now (out .exit))' 'r ≡ f n → x'; do
     if told=$(form "pub fn f(n: usize) -> usize ensures { λ r. ⌜ $empty ⌝ } {"); then
         echo "contracts: a contract that says nothing passes as an $told: $empty" >&2
         exit 1

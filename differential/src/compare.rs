@@ -5,6 +5,7 @@
 use crate::generate::Input;
 use crate::oracle::{Oracle, Refusal, Verdict};
 use crate::port::{Answer, Port, BLOCK, OUTPUT, UNWRITTEN};
+use crate::rust::lexitem::LexItem;
 use crate::sorts::Sorts;
 use crate::tables::Tables;
 use std::io;
@@ -15,6 +16,14 @@ pub struct Seen {
     pub wrong: Option<&'static str>,
     pub refusal: Refusal,
     pub sorts: Sorts,
+}
+
+/// What should come of one input: the listing, and the record if the line isn't refused.
+#[derive(Clone)]
+pub struct Due {
+    pub verdict: Verdict,
+    pub listing: Vec<u8>,
+    pub item: Option<LexItem>,
 }
 
 /// What should come of one input, and what came of it.
@@ -31,7 +40,7 @@ pub struct Desk {
     oracle: Oracle,
     port: Option<Port>,
     inputs: Vec<Input>,
-    verdicts: Vec<(Verdict, Vec<u8>)>,
+    due: Vec<Due>,
 }
 
 impl Desk {
@@ -42,18 +51,17 @@ impl Desk {
             command => Some(Port::start(command)?),
         };
         let inputs = vec![Input::new(); BLOCK];
-        Ok(Desk { oracle: Oracle::new(), port, inputs, verdicts: Vec::new() })
+        Ok(Desk { oracle: Oracle::new(), port, inputs, due: Vec::new() })
     }
 
     /// Asks both about a block of inputs, which `make` fills in, and tells each case: the input,
-    /// what it should give with its listing, and the port's answer. The oracle answers while the
-    /// port does.
+    /// what it should give, and the port's answer. The oracle answers while the port does.
     pub fn ask(
         &mut self,
         count: usize,
         tables: &Tables,
         mut make: impl FnMut(usize, &mut Input),
-        mut tell: impl FnMut(&Input, &Verdict, &[u8], Option<&Answer>),
+        mut tell: impl FnMut(&Input, &Due, Option<&Answer>),
     ) -> io::Result<()> {
         let inputs = &mut self.inputs[..count];
         for (at, input) in inputs.iter_mut().enumerate() {
@@ -62,17 +70,18 @@ impl Desk {
         if let Some(port) = &mut self.port {
             port.send(inputs, tables)?;
         }
-        self.verdicts.clear();
+        self.due.clear();
         for input in inputs.iter() {
             let verdict = self.oracle.answer(input, tables);
-            self.verdicts.push((verdict, self.oracle.page.bytes.clone()));
+            let (listing, item) = (self.oracle.page.bytes.clone(), self.oracle.item.take());
+            self.due.push(Due { verdict, listing, item });
         }
         if let Some(port) = &mut self.port {
             port.receive()?;
         }
-        for (at, (input, (verdict, listing))) in inputs.iter().zip(&self.verdicts).enumerate() {
+        for (at, (input, due)) in inputs.iter().zip(&self.due).enumerate() {
             let answer = self.port.as_ref().map(|port| port.answer(at));
-            tell(input, verdict, listing, answer.as_ref());
+            tell(input, due, answer.as_ref());
         }
         Ok(())
     }
@@ -81,11 +90,11 @@ impl Desk {
     pub fn ask_one(&mut self, input: &Input, tables: &Tables) -> io::Result<Case> {
         let mut case = None;
         let make = |_, place: &mut Input| place.clone_from(input);
-        self.ask(1, tables, make, |_, verdict, listing, answer| {
+        self.ask(1, tables, make, |_, due, answer| {
             case = answer.map(|answer| Case {
-                verdict: *verdict,
-                listing: listing.to_vec(),
-                seen: seen(verdict, listing, answer),
+                verdict: due.verdict,
+                listing: due.listing.clone(),
+                seen: seen(&due.verdict, &due.listing, answer),
                 printed: answer.output[..OUTPUT.min(answer.written as usize)].to_vec(),
             });
         })?;

@@ -8,6 +8,7 @@ use crate::tables::{self, Tables};
 
 mod counted;
 mod drawn;
+mod records;
 mod texts;
 
 /// What both sides are handed.
@@ -21,6 +22,8 @@ pub struct Input {
     pub table: usize,
     /// How many bytes of output are lent.
     pub room: usize,
+    /// Whether the record is to be written, and not listed.
+    pub write: bool,
 }
 
 impl Input {
@@ -31,6 +34,7 @@ impl Input {
             options: 0,
             table: tables::CRATE,
             room: ROOM,
+            write: false,
         }
     }
 
@@ -60,11 +64,31 @@ pub struct Plan {
     files: Vec<Vec<u8>>,
     /// The counted sections, each with how many of its cases are run.
     counted: Vec<(Section, u64)>,
+    /// The sections that are drawn from, with their shares in a hundred.
+    drawn: &'static [Section],
+    /// Whether the records are written.
+    write: bool,
 }
 
 impl Plan {
+    /// Lines to list.
     pub fn new(seed: u64, count: u64, files: Vec<Vec<u8>>) -> Self {
-        let sections = counted::sections();
+        Plan::over(counted::sections(), drawn::SECTIONS, seed, count, files)
+    }
+
+    /// Lines whose records are written.
+    pub fn records(seed: u64, count: u64, files: Vec<Vec<u8>>) -> Self {
+        let plan = Plan::over(records::sections(), records::SECTIONS, seed, count, files);
+        Plan { write: true, ..plan }
+    }
+
+    fn over(
+        sections: Vec<Section>,
+        drawn: &'static [Section],
+        seed: u64,
+        count: u64,
+        files: Vec<Vec<u8>>,
+    ) -> Self {
         // The largest share that keeps the sum of all within half of the run.
         let sum = |share| sections.iter().map(|section| section.1.min(share)).sum::<u64>();
         let (mut share, mut too_much) = (0, count / 2 + 1);
@@ -80,6 +104,8 @@ impl Plan {
             count,
             files,
             counted: sections.into_iter().map(|section| (section, section.1.min(share))).collect(),
+            drawn,
+            write: false,
         }
     }
 
@@ -101,6 +127,7 @@ impl Plan {
         let mut random = Random::new(self.seed, index);
         let random = &mut random;
         input.line.clear();
+        input.write = self.write;
         input.number = line_number(random);
         input.options = random.pick(&[0, 0, 0, 0, 2, 2, 2, 1, 3]);
         input.table = Tables::pick(random);
@@ -128,7 +155,7 @@ impl Plan {
             return texts::damage(&mut input.line, random);
         }
         let mut share = random.below(100);
-        for (_, part, make) in drawn::SECTIONS {
+        for (_, part, make) in self.drawn {
             if share < *part {
                 return make(input, 0, random);
             }

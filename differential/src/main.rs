@@ -18,6 +18,9 @@ mod tally;
 #[cfg(test)]
 #[rustfmt::skip]
 mod tests;
+mod write;
+mod writing;
+mod written;
 
 // The names that lexer.rs expects at the root of its crate.
 use shims::options::{ReadOptions, StrictnessLevel};
@@ -39,6 +42,8 @@ use tally::{described, shrunk, Shown, Tally};
 const USAGE: &str = "differential [--count N | --short] [--seed N] [--threads N] [--file FILE].. [-- PORT WORD..]
     compares N lines (10,000,000; short: 1,000,000); lines of each FILE come first, whole and damaged;
     PORT is the program that answers for the port, and without one the Rust is held to 01 alone
+differential --write [--count N | --short] ..
+    compares what is written of N records (1,000,000; short: 100,000), with the same words
 differential --list
     what pdblist prints for standard input, by the oracle
 differential --sample PREFIX LINES [--seed N]
@@ -46,6 +51,8 @@ differential --sample PREFIX LINES [--seed N]
 
 const USUAL: u64 = 10_000_000;
 const SHORT: u64 = 1_000_000;
+const USUAL_RECORDS: u64 = 1_000_000;
+const SHORT_RECORDS: u64 = 100_000;
 const USUAL_SEED: u64 = 330;
 /// How many cases are drawn from to choose a sample.
 const SAMPLED: u64 = 2_000_000;
@@ -54,18 +61,28 @@ const STRIDE: u64 = 256 * BLOCK as u64;
 
 enum Mode {
     Compare,
+    Write,
     List,
     Sample(String, usize),
 }
 
 struct Words {
     mode: Mode,
-    count: u64,
+    count: Option<u64>,
+    short: bool,
     seed: u64,
     threads: usize,
     files: Vec<Vec<u8>>,
     /// The command that runs the port, or nothing.
     port: Vec<String>,
+}
+
+impl Words {
+    /// How many cases are asked for.
+    fn count(&self, usual: u64, short: u64) -> u64 {
+        let others = if self.short { short } else { usual };
+        self.count.unwrap_or(others)
+    }
 }
 
 fn main() -> ExitCode {
@@ -79,7 +96,8 @@ fn main() -> ExitCode {
     rust::expect_panics();
     let tables = Tables::new(words.seed);
     let done = match &words.mode {
-        Mode::Compare => compare_all(&words, &tables),
+        Mode::Compare => compare_all(&words, words.count(USUAL, SHORT), &tables),
+        Mode::Write => write::write_all(&words, words.count(USUAL_RECORDS, SHORT_RECORDS), &tables),
         Mode::List => list(&tables).map(|()| ExitCode::SUCCESS),
         Mode::Sample(prefix, count) => {
             let plan = Plan::new(words.seed, SAMPLED, Vec::new());
@@ -98,7 +116,8 @@ fn main() -> ExitCode {
 fn words() -> Result<Words, String> {
     let mut words = Words {
         mode: Mode::Compare,
-        count: USUAL,
+        count: None,
+        short: false,
         seed: USUAL_SEED,
         threads: thread::available_parallelism().map_or(1, usize::from),
         files: Vec::new(),
@@ -112,8 +131,9 @@ fn words() -> Result<Words, String> {
         }
         let mut next = || given.next().ok_or(format!("{word} wants more"));
         match word.as_str() {
-            "--count" => words.count = number(&next()?)?,
-            "--short" => words.count = SHORT,
+            "--count" => words.count = Some(number(&next()?)?),
+            "--short" => words.short = true,
+            "--write" => words.mode = Mode::Write,
             "--seed" => words.seed = number(&next()?)?,
             "--threads" => words.threads = number(&next()?)?.max(1) as usize,
             "--file" => {
@@ -149,9 +169,23 @@ fn list(tables: &Tables) -> io::Result<()> {
 }
 
 /// Runs every case and says what came of it: success if nothing was wrong.
-fn compare_all(words: &Words, tables: &Tables) -> io::Result<ExitCode> {
-    let plan = Plan::new(words.seed, words.count, words.files.clone());
+fn compare_all(words: &Words, count: u64, tables: &Tables) -> io::Result<ExitCode> {
+    let plan = Plan::new(words.seed, count, words.files.clone());
     println!("seed {}, {} lines", plan.seed, plan.count);
+    print_sides(&words.port, "the Rust is held to 01 alone");
+    for (name, count) in plan.sections() {
+        println!("    {name}: {count}");
+    }
+    let run = |next: &AtomicU64| run(&plan, tables, &words.port, next);
+    let mut tally = Tally::default();
+    for other in share(words.threads, plan.count, "lines", run)? {
+        tally.add(other);
+    }
+    tally.print(tables, !words.port.is_empty());
+    verdict(&tally, tables, &words.port)
+}
+
+fn print_sides(port: &[String], without: &str) {
     println!(
         "the Rust: {}, {}",
         env!("PDBTBX_SRC"),
@@ -160,34 +194,30 @@ fn compare_all(words: &Words, tables: &Tables) -> io::Result<ExitCode> {
             false => "without overflow checks",
         }
     );
-    match words.port.as_slice() {
-        [] => println!("the port: none was named; the Rust is held to 01 alone"),
+    match port {
+        [] => println!("the port: none was named; {without}"),
         command => println!("the port: {}", command.join(" ")),
     }
-    for (name, count) in plan.sections() {
-        println!("    {name}: {count}");
-    }
+}
 
+/// What each of so many threads made of its share of the cases, and how long that took. The next
+/// case that nobody has taken is counted by all.
+fn share<T: Send>(
+    threads: usize,
+    count: u64,
+    cases: &str,
+    run: impl Fn(&AtomicU64) -> io::Result<T> + Sync,
+) -> io::Result<Vec<T>> {
     let start = Instant::now();
     let next = AtomicU64::new(0);
-    let tally = thread::scope(|scope| {
-        let threads: Vec<_> = (0..words.threads)
-            .map(|_| scope.spawn(|| run(&plan, tables, &words.port, &next)))
-            .collect();
-        let mut tally = Tally::default();
-        for thread in threads {
-            tally.add(thread.join().expect("no thread panics")?);
-        }
-        io::Result::Ok(tally)
+    let all = thread::scope(|scope| {
+        let all: Vec<_> = (0..threads).map(|_| scope.spawn(|| run(&next))).collect();
+        let ended = all.into_iter().map(|thread| thread.join().expect("no thread panics"));
+        ended.collect::<io::Result<Vec<T>>>()
     })?;
     let seconds = start.elapsed().as_secs_f64();
-    println!(
-        "{seconds:.1} s, {:.0} lines a second on {} threads",
-        plan.count as f64 / seconds,
-        words.threads
-    );
-    tally.print(tables, !words.port.is_empty());
-    verdict(&tally, tables, &words.port)
+    println!("{seconds:.1} s, {:.0} {cases} a second on {threads} threads", count as f64 / seconds);
+    Ok(all)
 }
 
 /// One thread's share of the cases, with a port of its own.
@@ -203,10 +233,11 @@ fn run(plan: &Plan, tables: &Tables, port: &[String], next: &AtomicU64) -> io::R
         for start in (first..end).step_by(BLOCK) {
             let count = BLOCK.min((end - start) as usize);
             let make = |at, input: &mut Input| plan.make(start + at as u64, input);
-            desk.ask(count, tables, make, |input, verdict, listing, answer| {
-                tally.count(input, verdict, listing.len());
+            desk.ask(count, tables, make, |input, due, answer| {
+                let verdict = &due.verdict;
+                tally.count(input, verdict, due.listing.len());
                 if let Some(answer) = answer {
-                    tally.count_port(input, verdict, &seen(verdict, listing, answer));
+                    tally.count_port(input, verdict, &seen(verdict, &due.listing, answer));
                 }
             })?;
         }

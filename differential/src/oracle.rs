@@ -50,12 +50,14 @@ pub struct Verdict {
 
 pub struct Oracle {
     pub page: Page,
+    /// The record that was read, if the line isn't refused.
+    pub item: Option<LexItem>,
     masked: Vec<u8>,
 }
 
 impl Oracle {
     pub fn new() -> Self {
-        Oracle { page: Page::new(), masked: Vec::with_capacity(1024) }
+        Oracle { page: Page::new(), item: None, masked: Vec::with_capacity(1024) }
     }
 
     pub fn answer(&mut self, input: &Input, tables: &Tables) -> Verdict {
@@ -74,6 +76,7 @@ impl Oracle {
             finding: None,
         };
         self.page.clear();
+        self.item = None;
 
         let reply = match std::str::from_utf8(line) {
             Ok(text) if class != Class::WrongTable => {
@@ -137,7 +140,7 @@ impl Oracle {
             }
         }
 
-        if verdict.refusal.number == 0 && self.page.bytes.len() > input.room {
+        if verdict.refusal.number == 0 && !input.write && self.page.bytes.len() > input.room {
             verdict.refusal = refusal(8, 0, self.page.bytes.len());
         }
         verdict
@@ -197,6 +200,7 @@ impl Oracle {
                     verdict.faults[number] += 1;
                     page.three("fault", number, context.place, context.length);
                 }
+                self.item = Some(item);
             }
         }
     }

@@ -14,6 +14,8 @@ pub const BLOCK: usize = 15;
 /// The bytes of a request: five words, the line, and the table behind it.
 const REQUEST: usize = 4096;
 const HEAD: usize = 40;
+/// The bit of the options word that asks for the record to be written.
+const WRITE: u32 = 32;
 /// The bytes of a reply: what each of the four calls answered, the sorts of the faults, a word
 /// each, and the output.
 const REPLY: usize = TOLD + OUTPUT;
@@ -22,6 +24,8 @@ const TOLD: usize = 40;
 pub const OUTPUT: usize = 4160;
 /// What every byte of the output is before the calls.
 pub const UNWRITTEN: u8 = 0xC5;
+/// The first word of a reply, if the record was to be written and the line was refused.
+pub const NOT_READ: u64 = u64::MAX - 1;
 /// The longest line that has room in a request beside every table.
 pub const LONGEST: usize = 2000;
 
@@ -64,7 +68,7 @@ impl Port {
             let table = tables.bytes(input.table);
             let words = [
                 input.number as u64,
-                u64::from(input.options),
+                u64::from(input.options) | u64::from(input.write) << WRITE,
                 input.line.len() as u64,
                 table.len() as u64,
                 input.room as u64,

@@ -29,7 +29,7 @@ impl Shown {
     }
 }
 
-fn keep_smaller(kept: &mut Option<Shown>, input: &Input, why: &'static str) {
+pub fn keep_smaller(kept: &mut Option<Shown>, input: &Input, why: &'static str) {
     let longer = match kept {
         Some(kept) => kept.input.line.len() < input.line.len(),
         None => false,
@@ -251,7 +251,7 @@ fn print_smallest(shown: &Shown, tables: &Tables, holds: impl Fn(&Verdict) -> bo
     println!("        smallest: {}", described(&smallest, tables));
 }
 
-fn add_all(sums: &mut [u64], others: &[u64]) {
+pub fn add_all(sums: &mut [u64], others: &[u64]) {
     for (sum, other) in sums.iter_mut().zip(others) {
         *sum += other;
     }

@@ -1,10 +1,15 @@
-//! The oracle alone: 01's example, its edge lines, and hand-made lines with their listings.
+//! The oracle alone: 01's example, its edge lines, and hand-made lines with their listings. Then the
+//! writer alone, on lines that stand as they have to be written, and on records made by hand.
 
 use crate::columns::{kind_of, KINDS};
 use crate::good::GOOD;
 use crate::oracle::{Oracle, Refusal};
+use crate::random::Random;
+use crate::rust::lexitem::LexItem;
 use crate::sample::{lines, listed};
 use crate::tables::{self, Tables};
+use crate::writing::{self, nearest};
+use crate::written::places_of;
 use crate::{rust, Input};
 use std::sync::Once;
 
@@ -277,4 +282,165 @@ fn lines_of_a_file() {
     assert_eq!(cut("\n"), [b""]);
     assert_eq!(cut("a\r\nb\r\r\n\r\n\nc\r"), [&b"a"[..], b"b\r", b"", b"", b"c\r"]);
     assert_eq!(printed(&"\n".repeat(65537)), "input=too-long\n");
+}
+
+/// What is written of the record that the Rust reads of a line, or the refusal.
+fn written(line: &str) -> Result<String, Refusal> {
+    let mut input = Input::new();
+    input.line = line.as_bytes().to_vec();
+    let mut oracle = Oracle::new();
+    oracle.answer(&input, &tables());
+    let name = input.line.get(12..16).unwrap_or(b"    ");
+    let bytes = writing::line(&oracle.item.unwrap(), name, 80)?;
+    Ok(String::from_utf8(bytes.to_vec()).unwrap())
+}
+
+fn nine(place: usize, length: usize) -> Result<String, Refusal> {
+    Err(Refusal { number: 9, place, length })
+}
+
+#[test]
+fn lines_that_are_written_as_they_stand() {
+    for line in [
+        "ATOM      1  N   VAL A   1       6.204  16.869   4.854  1.00 49.05           N  ",
+        "ATOM  99999 HG11AVAL B -12C    -99.999-999.999   0.001  0.50  0.00      SEGAFE3+",
+        "ATOM      7 1H    DA  9999Z   9999.999  -0.000   0.000-99.99999.99      A    C9-",
+        "HETATM 4384 FE   HEM A 142       8.128   7.371 -15.022  1.00 16.74          FE  ",
+        "ANISOU    1  N   VAL A   1     2406   1892   1614    198    519   -328       N  ",
+        "ANISOU99999 HG11AVAL B -12C -999999      0      0      1 100000-100000  SEGAFE3+",
+        "CRYST1   63.150   83.590   53.800  90.00  99.34  90.00 P 1 21 1      4          ",
+        "CRYST199999.999-9999.999   -0.0009999.99-999.99   0.00 P 21 21 21A9999          ",
+        "SCALE1      0.015835  0.000000  0.002606        0.00000                         ",
+        "SCALE3    999.999999-99.999999 -0.000000     9999.99999                         ",
+        "ORIGX2     -0.158977  0.983924  0.081383       13.72000                         ",
+        "MTRIX1   1 -1.000000  0.000000 -0.000000        0.00001    1                    ",
+        "MTRIX3 999  0.000000 -0.000000 -1.000000     -999.99999                         ",
+        "MODEL        2                                                                  ",
+        "MODEL     9999                                                                  ",
+        "ENDMDL                                                                          ",
+        "TER                                                                             ",
+        "END                                                                             ",
+    ] {
+        assert_eq!(written(line).as_deref(), Ok(line));
+    }
+}
+
+const AN_ATOM: &str = "ATOM      1  N   VAL A   1       6.204  16.869   4.854  1.00 49.05           N  ";
+
+/// A line with another text from a column on.
+fn with(line: &str, start: usize, text: &str) -> String {
+    format!("{}{text}{}", &line[..start], &line[start + text.len()..])
+}
+
+#[test]
+fn fields_that_are_written_otherwise() {
+    for (start, read, stands) in [
+        (6, "+0007", "    7"), (12, "  N ", "  N "), (12, "N   ", "N   "), (17, " A ", "  A"), (21, " ", " "),
+        (22, "+01 ", "   1"), (22, "-001", "  -1"), (22, "-0  ", "   0"),
+        (30, "-.5     ", "  -0.500"), (30, "-.0004  ", "  -0.000"), (30, "x       ", "   0.000"),
+        (38, ".0625   ", "   0.062"), (38, "0.1875  ", "   0.188"), (46, "-0.0625 ", "  -0.062"),
+        (46, "999.9995", "1000.000"), (46, "-99.9995", " -99.999"), (38, "2.6755  ", "   2.675"),
+        (54, ".125  ", "  0.12"), (54, "-0.375", " -0.38"), (60, "2.675 ", "  2.67"), (60, "99.995", "100.00"),
+        (54, "x     ", "  1.00"),
+        (72, " A C", "A C "), (76, "C ", " C"), (78, "0-", "  "), (78, "-2", "  "),
+    ] {
+        assert_eq!(written(&with(AN_ATOM, start, read)).unwrap(), with(AN_ATOM, start, stands), "{read}");
+    }
+    let anisou = "ANISOU    1  N   VAL A   1     2406   1892   1614    198    519   -328       N  ";
+    assert_eq!(written(&with(anisou, 28, "-0     ")).unwrap(), with(anisou, 28, "      0"));
+    assert_eq!(written(&with(anisou, 35, "-00001 ")).unwrap(), with(anisou, 35, "     -1"));
+    // Columns that the line doesn't reach are blank or 0, and the occupancy is 1.
+    assert_eq!(
+        written("ATOM   ").unwrap(),
+        padded("ATOM      0              0       0.000   0.000   0.000  1.00  0.00", 80)
+    );
+}
+
+#[test]
+fn fields_that_do_not_fit() {
+    for (start, text, length) in [
+        (12, "\tN  ", 4), (12, "N\x7F  ", 4), (16, "\x1F", 1), (17, "A\x00B", 3), (21, "\t", 1), (26, "\x0B", 1),
+        (30, "10000   ", 8), (38, "-1000   ", 8), (46, "99999999", 8), (54, "1000  ", 6), (60, "-100  ", 6),
+        (72, "A\tB ", 4), (76, "\x01C", 2),
+    ] {
+        assert_eq!(written(&with(AN_ATOM, start, text)), nine(start, length), "{text}");
+    }
+    // Of several the first by column.
+    let two = with(&with(AN_ATOM, 72, "A\tB "), 30, "10000   ");
+    assert_eq!(written(&two), nine(30, 8));
+    assert_eq!(written(&with(&two, 26, "\x7F")), nine(26, 1));
+    assert_eq!(written("MODEL 10000"), nine(10, 4));
+    assert_eq!(written("CRYST1    1.000    1.000    1.000  90.00  90.00  90.00 P 1        10000"), nine(66, 4));
+    assert_eq!(written("SCALE2    1234567890.000000001"), nine(10, 10));
+    for line in ["", "CONECT 2179", "REMARK   2", "MASTER ", "SEQRES "] {
+        assert_eq!(written(line), nine(0, 6));
+    }
+}
+
+#[test]
+fn records_that_no_line_gives() {
+    let line = |item: &LexItem, name: &[u8], room| match writing::line(item, name, room) {
+        Ok(line) => Ok(String::from_utf8(line.to_vec()).unwrap()),
+        Err(refusal) => Err(refusal),
+    };
+    let row = |row, a| LexItem::MtriX(row, 1000, [a, 0.0, 0.0, f64::INFINITY], true);
+    assert_eq!(line(&row(3, f64::NAN), b"", 0), nine(5, 1));
+    assert_eq!(line(&row(2, f64::NAN), b"", 0), nine(7, 3));
+    assert_eq!(line(&LexItem::Scale(2, [1e300, 0.0, 0.0, 0.0]), b"", 0), nine(10, 10));
+    assert_eq!(line(&LexItem::OrigX(0, [0.0, 0.0, 0.0, f64::NAN]), b"", 0), nine(45, 10));
+    let atom = |chain: &str, charge| {
+        let text = String::from;
+        LexItem::Atom(
+            false, 1, text("N"), None, text("VAL"), text(chain), 1, None, 6.204, 16.869, 4.854, 1.0, 49.05,
+            text(""), text("N"), charge,
+        )
+    };
+    assert_eq!(line(&atom("A", 0), b" N  ", 80).as_deref(), Ok(AN_ATOM));
+    assert_eq!(line(&atom("", 0), b" N  ", 80), Ok(with(AN_ATOM, 21, " ")));
+    assert_eq!(line(&atom("A", -9), b" N  ", 80), Ok(with(AN_ATOM, 78, "9-")));
+    assert_eq!(line(&atom("A", 10), b" N  ", 80), nine(78, 2));
+    assert_eq!(line(&atom("A", -10), b" N  ", 80), nine(78, 2));
+    assert_eq!(line(&atom("AB", 10), b" N  ", 79), nine(21, 1));
+    assert_eq!(line(&atom("AB", 10), b"N", 79), nine(12, 4));
+    assert_eq!(line(&atom("A", 0), b" N  ", 79), Err(Refusal { number: 8, place: 0, length: 80 }));
+}
+
+#[test]
+fn the_nearest_decimal() {
+    let rounded = |x, places| nearest(x, places).map(|it| (it.whole, it.tie));
+    for (x, places, whole, tie) in [
+        (0.0, 3, 0, false), (-0.0, 3, 0, false), (0.0625, 3, 62, true), (0.1875, 3, 188, true),
+        (-0.0625, 3, 62, true), (0.125, 2, 12, true), (0.375, 2, 38, true), (0.5, 0, 0, true), (1.5, 0, 2, true),
+        (2.675, 2, 267, false), (1.005, 2, 100, false), (0.0005, 3, 1, false), (0.0025, 3, 3, false),
+        (5e-324, 9, 0, false), (1e-10, 9, 0, false), (5e-10, 9, 1, false), (9999999999.5, 0, 10000000000, true),
+        (0.0078125, 6, 7812, true), (0.015625, 5, 1562, true), (17179869183.0, 0, 17179869183, false),
+    ] {
+        assert_eq!(rounded(x, places), Some((whole, tie)), "{x} {places}");
+    }
+    for x in [f64::NAN, f64::INFINITY, f64::NEG_INFINITY, 17179869184.0, 1e300] {
+        assert_eq!(rounded(x, 3), None);
+    }
+    // The standard library rounds in the same way.
+    let mut random = Random::new(330, 0);
+    for _ in 0..300_000 {
+        let places = random.below(10) as u32;
+        let x = match random.below(3) {
+            // Any size from 2^-64 to 2^34.
+            0 => f64::from_bits((959 + random.below(98)) << 52 | random.next() >> 12),
+            1 => random.below(1 << 20) as f64 / (2 << places) as f64,
+            _ => random.below(10_000_000_000) as f64 / 10f64.powi(random.below(10) as i32),
+        };
+        let text = format!("{x:.*}", places as usize).replace('.', "");
+        assert_eq!(nearest(x, places).map(|it| it.whole), text.parse().ok(), "{x} {places}");
+    }
+}
+
+#[test]
+fn places_of_a_field() {
+    for (field, places) in [
+        ("  1.50", 2), ("5.", 0), (".5", 1), ("-.500", 3), ("+1", 0), ("x", 0), ("1.5e3", 0), ("", 0), ("\t1.0\x0B", 1),
+    ] {
+        assert_eq!(places_of(Some(field.as_bytes())), places, "{field}");
+    }
+    assert_eq!(places_of(None), 0);
 }

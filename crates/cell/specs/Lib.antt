@@ -2,3 +2,4 @@
 pub mod Places
 pub mod Text
 pub mod Cell
+pub mod Words

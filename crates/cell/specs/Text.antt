@@ -10,9 +10,10 @@ unfoldable pub lastDigits : ℕ → ℕ → List ℕ → List ℕ
 lastDigits zero n t = t
 lastDigits (suc k) n t = lastDigits k (n / 10) ((48 + n % 10) ∷ t)
 
--- N over 10 ^ q: the digits of N with a point q from the end, and a digit before the point at least
+-- N over 10 ^ q: the digits of N with a point q from the end, and a digit before the point at least; without places there is no point
 unfoldable pub pointed : ℕ → ℕ → List ℕ
-pointed q n = decimal (n / 10 ^ q) ++ 46 ∷ lastDigits q n []
+pointed zero n = decimal n
+pointed (suc q) n = decimal (n / 10 ^ suc q) ++ 46 ∷ lastDigits (suc q) n []
 
 abbrev pub behindMinus : Bool → List ℕ → List ℕ
 behindMinus false t = t

@@ -1,16 +1,15 @@
 // A number in so many columns of a line that is written. What doesn't fit puts blanks and is told, so that every cell fills its columns.
-ghost use mathlib.Core.Path.{_≡_};
 ghost use Prim.Native.Nat.{_≤_, _<_, _^_};
 ghost use Rattle.cell.specs.Cell as specs;
 ghost use Rattle.cell.specs.Places.{placesOf};
 ghost use Rattle.cell.specs.Text.{fixed};
-ghost use Rattle.number.specs.Whole.{withSign};
 ghost use Rattle.page.specs.Numerals.{decimal, signedDecimal};
-ghost use Rattle.page.specs.Page.{page, put};
+ghost use Rattle.page.specs.Page.{page};
 
 pub mod places;
 mod power;
-mod text;
+pub mod text;
+pub mod words;
 
 use crate::places::Places;
 use crate::places::round_to;
@@ -80,18 +79,7 @@ pub fn put_real(out: &mut [u8], at: usize, width: usize, q: usize, x: f64) -> Pu
     put_decimal(out, at, width, q, minus, digits)
 }
 
-// A number with its sign, which a zero doesn't keep.
-fn signed(minus: bool, digits: u64) -> i64
-    requires { ⌜ digits < 10 ^ 10 ⌝ }
-    ensures { λ r. ⌜ r ≡ withSign minus digits ⌝ }
-{
-    if minus {
-        return 0 - (digits as i64);
-    }
-    digits as i64
-}
-
-// One of ANISOU's six: in four places, without the point.
+// One of ANISOU's six: in four places, without the point. A zero doesn't keep its sign.
 pub fn put_factor(out: &mut [u8], at: usize, width: usize, x: f64) -> Put
     ensures { λ r. ⌜ specs.Puts (page (now (out .entry)) at) (specs.factorBytes width (placesOf 4 x)) (specs.factorFits width (placesOf 4 x)) (now (out .exit)) r ⌝ }
 {
@@ -101,5 +89,8 @@ pub fn put_factor(out: &mut [u8], at: usize, width: usize, x: f64) -> Put
             fits: false,
         };
     };
-    put_signed(out, at, width, signed(minus, digits))
+    if digits == 0 {
+        return put_decimal(out, at, width, 0, false, digits);
+    }
+    put_decimal(out, at, width, 0, minus, digits)
 }

@@ -9,7 +9,7 @@ use page::put_byte;
 use page::put_bytes;
 use page::put_unsigned;
 
-pub(crate) fn put_blanks(out: &mut [u8], at: usize, n: usize) -> usize
+pub fn put_blanks(out: &mut [u8], at: usize, n: usize) -> usize
     ensures { λ r. ⌜ page (now (out .exit)) r ≡ put (page (now (out .entry)) at) (specs.blanks n) ⌝ }
 {
     let mut next = at;
@@ -50,11 +50,14 @@ fn put_last(out: &mut [u8], at: usize, k: usize, n: u64) -> usize
     put_bytes(out, at, &bytes[i..])
 }
 
-// N over 10^q.
+// N over 10^q, without a point if q is 0.
 fn put_pointed(out: &mut [u8], at: usize, q: usize, n: u64) -> usize
     requires { ⌜ q ≤ 9 ⌝ }
     ensures { λ r. ⌜ page (now (out .exit)) r ≡ put (page (now (out .entry)) at) (specs.pointed q n) ⌝ }
 {
+    if q == 0 {
+        return put_unsigned(out, at, n);
+    }
     let point = put_unsigned(out, at, n / raised(10, q));
     let last = put_byte(out, point, 46);
     put_last(out, last, q, n)

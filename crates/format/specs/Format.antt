@@ -1,6 +1,7 @@
 -- The columns of the wwPDB format, version 3.30, for each kind that the lexer reads.
 --     Sort, FormatField     what a field holds, and where
 --     formatOf              the format's fields of a kind
+--     writtenIn             the fields that a kind is written in: the format's, and the segment name of older versions
 -- Columns count from 0, and `a ⋯ b` excludes b. The format counts from 1 and includes both ends: its own numbers stand in the comments, as
 -- `a-b`, with how sure they are. A: the source of a package quotes the format's table for this record, and others agree. B: the code of two
 -- packages uses these columns without quoting. C: from memory.
@@ -11,9 +12,11 @@ use Rattle.line.specs.declared.columns.Columns.{Columns}
 use Rattle.kind.specs.declared.Kind.{Kind}
 use Rattle.kind.specs.declared.Kind.the-variants.{Empty, Header, Remark, Atom, Hetatm, Anisou, Cryst1, Scale, Origx, Mtrix, Model, Master, Dbref, Dbref1, Dbref2, Seqres, Seqadv, Modres, Ssbond, Endmdl, Ter, End}
 
--- the format's Integer; its Real; its LString, String, Atom, Residue name, IDcode, Date and SymOP; its Character and AChar
+-- the format's Integer; its LString, String, Atom, Residue name, IDcode, Date and SymOP; its Character and AChar; its Real, with so many
+-- decimals: Real(8.3) in its columns is `real 3`
 pub data Sort : Type 0 where
-  integer real text character : Sort
+  integer text character : Sort
+  real : ℕ → Sort
 
 infix 80 _at_ _from_
 pub data FormatField : Type 0 where
@@ -39,13 +42,25 @@ atomHead =
 abbrev atomEnd : List FormatField
 atomEnd = text at 76 ⋯ 78 ∷ text at 78 ⋯ 80 ∷ []
 
--- 31-38 x, 39-46 y, 47-54 z, 55-60 occupancy, 61-66 tempFactor (A)
+-- 31-38 x, 39-46 y, 47-54 z, Real(8.3), 55-60 occupancy, 61-66 tempFactor, Real(6.2) (A)
 abbrev atomReals : List FormatField
-atomReals = real at 30 ⋯ 38 ∷ real at 38 ⋯ 46 ∷ real at 46 ⋯ 54 ∷ real at 54 ⋯ 60 ∷ real at 60 ⋯ 66 ∷ []
+atomReals = real 3 at 30 ⋯ 38 ∷ real 3 at 38 ⋯ 46 ∷ real 3 at 46 ⋯ 54 ∷ real 2 at 54 ⋯ 60 ∷ real 2 at 60 ⋯ 66 ∷ []
 
--- 11-20, 21-30, 31-40 a row of the matrix, 46-55 the translation (A)
+-- 29-35 U11, 36-42 U22, 43-49 U33, 50-56 U12, 57-63 U13, 64-70 U23 (A)
+abbrev atomFactors : List FormatField
+atomFactors = map (λ columns. integer at columns) (inRow 6 7 28)
+
+-- ATOM, HETATM and ANISOU by the numbers in their middle, with what older versions have behind these
+abbrev atomAround : List FormatField → List FormatField → List FormatField
+atomAround middle older = atomHead ++ middle ++ older ++ atomEnd
+
+-- 73-76 the segment name, up to version 2 (A)
+abbrev segmentName : List FormatField
+segmentName = text at 72 ⋯ 76 ∷ []
+
+-- 11-20, 21-30, 31-40 a row of the matrix, Real(10.6), 46-55 the translation, Real(10.5) (A)
 abbrev matrixRow : List FormatField
-matrixRow = real at 10 ⋯ 20 ∷ real at 20 ⋯ 30 ∷ real at 30 ⋯ 40 ∷ real at 45 ⋯ 55 ∷ []
+matrixRow = real 6 at 10 ⋯ 20 ∷ real 6 at 20 ⋯ 30 ∷ real 6 at 30 ⋯ 40 ∷ real 5 at 45 ⋯ 55 ∷ []
 
 abbrev pub formatOf : Kind → List FormatField
 formatOf Empty = []
@@ -53,18 +68,17 @@ formatOf Empty = []
 formatOf Header = text at 10 ⋯ 50 ∷ text at 50 ⋯ 59 ∷ text at 62 ⋯ 66 ∷ []
 -- 8-10 remarkNum (A), 12-79 the text (C, from memory)
 formatOf Remark = integer at 7 ⋯ 10 ∷ text at 11 ⋯ 79 ∷ []
-formatOf Atom = atomHead ++ atomReals ++ atomEnd
-formatOf Hetatm = atomHead ++ atomReals ++ atomEnd
--- 29-35 U11, 36-42 U22, 43-49 U33, 50-56 U12, 57-63 U13, 64-70 U23 (A)
-formatOf Anisou = atomHead ++ map (λ columns. integer at columns) (inRow 6 7 28) ++ atomEnd
--- 7-15 a, 16-24 b, 25-33 c, 34-40 alpha, 41-47 beta, 48-54 gamma, 56-66 sGroup, 67-70 z (A)
+formatOf Atom = atomAround atomReals []
+formatOf Hetatm = atomAround atomReals []
+formatOf Anisou = atomAround atomFactors []
+-- 7-15 a, 16-24 b, 25-33 c, Real(9.3), 34-40 alpha, 41-47 beta, 48-54 gamma, Real(7.2), 56-66 sGroup, 67-70 z (A)
 formatOf Cryst1 =
-    real at 6 ⋯ 15
-    ∷ real at 15 ⋯ 24
-    ∷ real at 24 ⋯ 33
-    ∷ real at 33 ⋯ 40
-    ∷ real at 40 ⋯ 47
-    ∷ real at 47 ⋯ 54
+    real 3 at 6 ⋯ 15
+    ∷ real 3 at 15 ⋯ 24
+    ∷ real 3 at 24 ⋯ 33
+    ∷ real 2 at 33 ⋯ 40
+    ∷ real 2 at 40 ⋯ 47
+    ∷ real 2 at 47 ⋯ 54
     ∷ text at 55 ⋯ 66
     ∷ integer at 66 ⋯ 70
     ∷ []
@@ -152,7 +166,7 @@ formatOf Modres =
     ∷ text at 29 ⋯ 70
     ∷ []
 -- 8-10 serNum, 12-14 `CYS`, 16 its chain, 18-21 its number, 22 its insertion code, 26-28 `CYS`, 30, 32-35 and 36 the same of the second,
--- 60-65 and 67-72 their operators (A); 74-78 Length (B)
+-- 60-65 and 67-72 their operators (A); 74-78 Length, Real(5.2) (B)
 formatOf Ssbond =
     integer at 7 ⋯ 10
     ∷ text at 11 ⋯ 14
@@ -165,7 +179,7 @@ formatOf Ssbond =
     ∷ character at 35 ⋯ 36
     ∷ text at 59 ⋯ 65
     ∷ text at 66 ⋯ 72
-    ∷ real at 73 ⋯ 78
+    ∷ real 2 at 73 ⋯ 78
     ∷ []
 -- the name alone (A)
 formatOf Endmdl = []
@@ -173,3 +187,28 @@ formatOf Endmdl = []
 formatOf Ter = integer at 6 ⋯ 11 ∷ text at 17 ⋯ 20 ∷ character at 21 ⋯ 22 ∷ integer at 22 ⋯ 26 ∷ character at 26 ⋯ 27 ∷ []
 -- the name alone (A)
 formatOf End = []
+
+-- ---- the fields that a kind is written in; of TER the name alone is written
+abbrev pub writtenIn : Kind → List FormatField
+writtenIn Empty = []
+writtenIn Header = []
+writtenIn Remark = []
+writtenIn Atom = atomAround atomReals segmentName
+writtenIn Hetatm = atomAround atomReals segmentName
+writtenIn Anisou = atomAround atomFactors segmentName
+writtenIn Cryst1 = formatOf Cryst1
+writtenIn (Scale row) = formatOf (Scale row)
+writtenIn (Origx row) = formatOf (Origx row)
+writtenIn (Mtrix row) = formatOf (Mtrix row)
+writtenIn Model = formatOf Model
+writtenIn Master = []
+writtenIn Dbref = []
+writtenIn Dbref1 = []
+writtenIn Dbref2 = []
+writtenIn Seqres = []
+writtenIn Seqadv = []
+writtenIn Modres = []
+writtenIn Ssbond = []
+writtenIn Endmdl = []
+writtenIn Ter = []
+writtenIn End = []

@@ -25,11 +25,12 @@ abbrev triplesFrom : ℕ → ℕ → List FormatField
 triplesFrom ℕ.zero start = []
 triplesFrom (suc k) start = text at start ⋯ (start + 3) ∷ triplesFrom k (start + 4)
 
--- U and I are both the format's Integer; a look into the remark table and a number that isn't written are no fields
+-- U and I are both the format's Integer; a real is read with any number of decimals; a look into the remark table and a number that isn't written
+-- are no fields
 abbrev fieldsOf : Entry → List FormatField
 fieldsOf (Entry.u columns) = integer at columns ∷ []
 fieldsOf (Entry.i columns) = integer at columns ∷ []
-fieldsOf (Entry.r columns default) = real at columns ∷ []
+fieldsOf (Entry.r columns default) = real 0 at columns ∷ []
 fieldsOf (Entry.t columns) = text at columns ∷ []
 fieldsOf (Entry.c columns) = character at columns ∷ []
 fieldsOf (Entry.c? columns) = character at columns ∷ []
@@ -53,7 +54,7 @@ fieldsOfTable (e ∷ rest) = fieldsOf e ++ fieldsOfTable rest
 
 abbrev sortNumber : Sort → ℕ
 sortNumber integer = 0
-sortNumber real = 1
+sortNumber (real decimals) = 1
 sortNumber text = 2
 sortNumber character = 3
 

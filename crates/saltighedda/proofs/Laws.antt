@@ -2,3 +2,4 @@
 -- that the two sorts of answer tell the same.
 pub mod Face
 pub mod One
+pub mod Write

@@ -1,2 +1,3 @@
 -- The words that the contracts of the C face cite.
 pub mod Face
+pub mod Write

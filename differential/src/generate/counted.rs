@@ -53,12 +53,12 @@ pub fn sections() -> Vec<Section> {
 }
 
 /// How many texts over an alphabet are no longer than this.
-fn shorter(alphabet: &[u8], longest: u32) -> u64 {
+pub fn shorter(alphabet: &[u8], longest: u32) -> u64 {
     (0..=longest).map(|length| (alphabet.len() as u64).pow(length)).sum()
 }
 
 /// Takes the next digit of a case's number, in this base.
-fn take(at: &mut u64, base: u64) -> usize {
+pub fn take(at: &mut u64, base: u64) -> usize {
     let digit = *at % base;
     *at /= base;
     digit as usize
@@ -105,7 +105,7 @@ fn replaced(input: &mut Input, at: u64, random: &mut Random) {
 }
 
 /// The text with this number among those over an alphabet, the shorter ones first.
-fn numbered(alphabet: &[u8], at: u64, text: &mut Vec<u8>) {
+pub fn numbered(alphabet: &[u8], at: u64, text: &mut Vec<u8>) {
     let base = alphabet.len() as u64;
     let mut at = at;
     let mut length = 0;
@@ -143,7 +143,7 @@ fn short_real(input: &mut Input, at: u64, _random: &mut Random) {
 }
 
 /// Every two bytes below 128 as a charge.
-fn charge(input: &mut Input, at: u64, random: &mut Random) {
+pub fn charge(input: &mut Input, at: u64, random: &mut Random) {
     let mut at = at;
     let pair = [take(&mut at, 128) as u8, take(&mut at, 128) as u8];
     let kind = kind_named(random.pick(&["ATOM", "HETATM", "ANISOU"]));

@@ -25,14 +25,14 @@ fn any_kind(random: &mut Random) -> &'static Kind {
 }
 
 /// Makes atoms only rare where it would leave nothing to read.
-fn keep(input: &mut Input, kind: &Kind, random: &mut Random) {
+pub fn keep(input: &mut Input, kind: &Kind, random: &mut Random) {
     if !kind.atoms && random.percent(90) {
         input.options &= 2;
     }
 }
 
 /// Lines with good fields, some of them cut or with more behind them.
-fn draw_good(input: &mut Input, _at: u64, random: &mut Random) {
+pub fn draw_good(input: &mut Input, _at: u64, random: &mut Random) {
     let kind = any_kind(random);
     keep(input, kind, random);
     fill(&mut input.line, kind, random);
@@ -202,7 +202,7 @@ fn draw_high(input: &mut Input, at: u64, random: &mut Random) {
 }
 
 /// Tables of a wrong length, long lines, and both at once.
-fn draw_refused(input: &mut Input, at: u64, random: &mut Random) {
+pub fn draw_refused(input: &mut Input, at: u64, random: &mut Random) {
     match random.percent(50) {
         true => draw_damaged(input, at, random),
         false => draw_bytes(input, at, random),

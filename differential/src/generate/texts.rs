@@ -78,7 +78,7 @@ pub fn place(line: &mut Vec<u8>, field: &Field, text: &[u8], aligned: usize) {
     columns[start..start + text.len()].copy_from_slice(text);
 }
 
-fn digits(out: &mut Vec<u8>, count: usize, random: &mut Random) {
+pub fn digits(out: &mut Vec<u8>, count: usize, random: &mut Random) {
     for _ in 0..count {
         out.push(b'0' + random.below(10) as u8);
     }

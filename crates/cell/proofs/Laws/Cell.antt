@@ -2,26 +2,23 @@
 --     puts-fit, puts-not     what a put of a text answers, by the text's length
 --     cell-back              a double that was read of M over 10 ^ p, with no more places than are written, reads back as the same double
 --     factor-cell            one of ANISOU's six reads back as the same integer
---     sign-held              a number of up to ten digits comes back from its bits with its sign
+--     factor-zero            its zero is written `0`, whatever its sign
+--     factor-none, -some     its digits are those of a decimal without places, and a zero's have no sign
 --     cell-again             what is read of any double's cell is written as the same cell
 -- Assumes nothing.
 use mathlib.Core.Path.{_≡_, refl, sym, _∙_}
-use Prim.Native.Nat.{ℕ, _-_, _*_, _^_, _≤_, _<_}
+use Prim.Native.Nat.{ℕ, zero, suc, _-_, _*_, _^_, _≤_, _<_}
 use mathlib.Core.Bool.{Bool, true, false}
-use mathlib.Core.List.{List}
+use mathlib.Core.List.{List, [], _∷_}
 use borrow.Author.Tests.{le-leb, lt-leb, leb-true}
 use native.Mathlib.Omega.{arith}
-use mir.Syntax.{w64}
-use mir.Val.{toZ, ofZ}
-use mir.Facts.{toZ-ofZ}
 use lib.ListN.{length}
 use lib.Dec.{lit≤}
 use lib.IntN.{ℤ, pos, negsuc, natAbs}
 use lib.Ieee.{Float}
-use Rattle.page.specs.Numerals.{signedDecimal}
+use Rattle.page.specs.Numerals.{decimalBefore, decimal, signedDecimal}
 use Rattle.number.specs.Whole.{withSign, signedOf}
 use Rattle.number.specs.declared.whole.Signed.the-variants.{I}
-use Rattle.number.proofs.Laws.Signed.{minus-fits}
 use Rattle.real.specs.Double.{doubleOf}
 use Rattle.real.specs.Real.{realOf, tenThousandth}
 use Rattle.real.specs.Sign.{below}
@@ -29,7 +26,7 @@ use Rattle.real.specs.declared.Real.the-variants.{R}
 use Rattle.page.specs.Page.{Page, page, put}
 use Rattle.cell.specs.Cell.{fitting, texted, realBytes, factorBytes, Puts}
 use Rattle.cell.specs.Places.{placesOf}
-use Rattle.cell.specs.Text.{blanks, right, fixed}
+use Rattle.cell.specs.Text.{blanks, right, pointed, fixed}
 use Rattle.cell.specs.declared.places.Places.the-variants.{Rounded}
 use Rattle.cell.proofs.Laws.Back.{signed-back, factor-back}
 use Rattle.cell.proofs.Laws.Places.{placed, places-are}
@@ -61,9 +58,22 @@ cell-again q w x s n e f k =
     rw e (rw f read, places-are q (doubleOf s n q) long ∙ again)
 
 -- ---- an integer of so many places
-pub sign-held : (s : Bool) (n : ℕ) → n < 10 ^ 10 → toZ w64 (ofZ w64 (withSign s n)) ≡ withSign s n
-sign-held false n h = toZ-ofZ {w = w64} (record { sfits = omega arith })
-sign-held true n h = toZ-ofZ {w = w64} (minus-fits n (omega arith))
+pub factor-none : (s : Bool) (n : ℕ) → n ≡ 0 → fixed 0 false n ≡ signedDecimal (withSign s n)
+unfolding fixed pointed signedDecimal
+factor-none false n e = refl
+factor-none true n e = rw e refl
+
+pub factor-some : (s : Bool) (n : ℕ) → (n ≡ 0 → ⊥) → fixed 0 s n ≡ signedDecimal (withSign s n)
+unfolding fixed pointed signedDecimal
+factor-some false n some = refl
+factor-some true zero some = absurd (some refl)
+factor-some true (suc n) some = refl
+
+-- "its zeros always as `0`", those too that were rounded from below
+pub factor-zero : (w : ℕ) (s : Bool) → factorBytes w (Rounded s 0) ≡ texted w (48 ∷ [])
+unfolding signedDecimal decimal decimalBefore
+factor-zero w false = refl
+factor-zero w true = refl
 
 sign-is : (z : ℤ) → withSign (below z) (natAbs z) ≡ z
 sign-is (pos n) = refl

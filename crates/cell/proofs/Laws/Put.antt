@@ -1,21 +1,22 @@
 -- How the parts of a field are put, by the code's loops.
 --     blanks-next, blanks-done     blanks, one by one
 --     last-more, last-done         the last digits, from the last one on
+--     pointed-none, pointed-some   a decimal, by whether it has places
 --     right-full                   a text that fills its columns
---     Front, front                 a text on bytes of our own, which is then handed on
+--     Front, front, front-part     a text on bytes of our own, which is then handed on, whole or from a place on
 --     fixed-short                  no decimal has more than 22 bytes
 -- Assumes nothing.
 use mathlib.Core.Path.{_≡_, refl, sym, ap, _∙_}
-use Prim.Native.Nat.{ℕ, zero, suc, _+_, _-_, _*_, _/_, _%_, _^_, _≤_, _<_}
-use native.Mathlib.Nat.{zero-add, div-le-self}
+use Prim.Native.Nat.{ℕ, zero, suc, _+_, _-_, _/_, _%_, _^_, _≤_, _<_}
+use native.Mathlib.Nat.{div-le-self}
 use native.Mathlib.Omega.{arith}
 use mathlib.Core.Bool.{Bool, true, false}
-use mathlib.Core.List.{List, [], _∷_, _++_, append-nil}
+use mathlib.Core.List.{List, [], _∷_, _++_}
 use Rattle.page.specs.Numerals.{decimal}
 use Rattle.page.proofs.Laws.Decimal.{decimal-short}
-use Rattle.cell.proofs.Laws.Text.{last-length}
+use Rattle.cell.proofs.Laws.Text.{tailOf, tail-length, pointed-parts}
 use lib.ListN.{length, take, drop, set, length-append}
-use lib.Seq.{take-at}
+use lib.Seq.{take-at, drop-at, take-add, length-take-le}
 use Rattle.page.specs.Page.{Page, page, put}
 use Rattle.page.proofs.Laws.Page.{put-step, put-count, put-front}
 use Rattle.page.proofs.Laws.Lists.{gathered}
@@ -43,6 +44,15 @@ unfolding lastDigits
 last-done zero n t e h f = f
 last-done (suc k) n t e h f = absurd (omega arith)
 
+pub pointed-none : (q n : ℕ) → q ≡ 0 → decimal n ≡ pointed q n
+unfolding pointed
+pointed-none q n e = rw e refl
+
+pub pointed-some : (q n : ℕ) → (q ≡ 0 → ⊥) → decimal (n / 10 ^ q) ++ 46 ∷ lastDigits q n [] ≡ pointed q n
+unfolding pointed
+pointed-some zero n some = absurd (some refl)
+pointed-some (suc q) n some = refl
+
 pub right-full : (w : ℕ) (t : List ℕ) → w ≤ length t → right w t ≡ t
 unfolding right blanks
 right-full w t h = let z : w - length t ≡ 0 = omega arith in rw z refl
@@ -64,17 +74,24 @@ front old new t n short fits e =
       is = is;
     }
 
+pub front-part : (new t : List ℕ) (n k : ℕ) → Front new t n → k ≤ n → take (n - k) (drop k new) ≡ drop k t
+front-part new t n k f h =
+    let parts : n ≡ k + (n - k) = omega arith in
+    let whole : take n new ≡ take k new ++ take (n - k) (drop k new) = ap (λ (m : ℕ). take m new) parts ∙ take-add k (n - k) new in
+    let kept : length (take k new) ≡ k = length-take-le k new (omega (arith, f .room)) in
+    sym (rw (sym (f .is) ∙ whole) (drop-at (take k new) (take (n - k) (drop k new)) k kept))
+
 -- ---- at most 22 bytes
 pub fixed-short : (q : ℕ) (s : Bool) (n : ℕ) → q ≤ 9 → n < 10 ^ 10 → length (fixed q s n) ≤ 22
-unfolding fixed pointed
-fixed-short q s n Q few = go s
+unfolding fixed
+fixed-short q s n Q few = rw (pointed-parts q n) (go s)
   where
     front : length (decimal (n / 10 ^ q)) ≤ 10
     front = decimal-short (n / 10 ^ q) (omega (arith, div-le-self n (10 ^ q))) 10 (omega arith) (omega (arith, div-le-self n (10 ^ q)))
 
-    whole : length (decimal (n / 10 ^ q) ++ 46 ∷ lastDigits q n []) ≤ 21
-    whole = omega (arith, length-append (decimal (n / 10 ^ q)) (46 ∷ lastDigits q n []), last-length q n [], front)
+    whole : length (decimal (n / 10 ^ q) ++ tailOf q n) ≤ 21
+    whole = omega (arith, length-append (decimal (n / 10 ^ q)) (tailOf q n), tail-length q n, front)
 
-    go : (s : Bool) → length (behindMinus s (decimal (n / 10 ^ q) ++ 46 ∷ lastDigits q n [])) ≤ 22
+    go : (s : Bool) → length (behindMinus s (decimal (n / 10 ^ q) ++ tailOf q n)) ≤ 22
     go false = omega (arith, whole)
     go true = omega (arith, whole)

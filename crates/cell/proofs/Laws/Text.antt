@@ -1,17 +1,17 @@
 -- What is written reads back.
+--     pointed-parts, tail-length           a decimal is its digits before the point and a tail, which is empty without places
 --     fixed-read                           a decimal in its columns says its digits, places and sign
 --     real-back, real-again                the double that it is read as
 -- Assumes nothing.
 use mathlib.Core.Path.{_≡_, refl, sym, ap, _∙_}
 use Prim.Native.Nat.{ℕ, zero, suc, _+_, _-_, _*_, _/_, _%_, _^_, _≤_, _<_}
-use native.Mathlib.Nat.{le-refl, le-trans, mul-one, one-mul, add-zero, zero-add, zero-mul, mod-lt, mul-assoc, add-mul, div-add-mod', zero-lt-suc, one-le-pow, pow-suc, mul-comm, div-le-self, lt-of-le-of-lt}
+use native.Mathlib.Nat.{div-one, le-refl, le-trans, add-zero, zero-add, mul-assoc, div-add-mod', zero-lt-suc, one-le-pow, pow-suc, div-le-self}
 use native.Mathlib.Omega.{arith}
-use mathlib.Core.Bool.{Bool, true, false, cond, _&&_, _||_}
-use mathlib.Core.List.{List, [], _∷_, _++_, append-nil, append-assoc}
+use mathlib.Core.Bool.{Bool, true, false}
+use mathlib.Core.List.{List, [], _∷_, _++_, append-nil}
 use borrow.Author.Tests.{ne-eqb, lt-leb, le-leb}
-use lib.ListN.{length, take, drop, length-append}
+use lib.ListN.{length, length-append}
 use lib.Seq.{take-all}
-use lib.Dec.{lit<, leb, eqb}
 use lib.Arith.{mod-mul}
 use lib.Ieee.{Float}
 use Rattle.page.specs.Numerals.{decimal}
@@ -19,19 +19,19 @@ use Rattle.page.specs.Said.{decimalSaid}
 use Rattle.page.proofs.Laws.Lists.{Between}
 use Rattle.page.proofs.Laws.Decimal.{decimal-length, decimal-says, between}
 use Rattle.number.specs.Trim.{white, leading, kept, endTrimmed, trimmed}
-use Rattle.number.specs.Whole.{digit, digits, joined, valueFrom, valueOf}
+use Rattle.number.specs.Whole.{digits, joined, valueFrom, valueOf}
 use Rattle.number.specs.Decimal.{decimalOf}
 use Rattle.real.specs.Double.{doubleOf}
 use Rattle.real.specs.Real.{realOf}
-use Rattle.number.specs.Grammar.{Sign, Fraction, SaysR}
-use Rattle.number.specs.declared.decimal.Decimal.the-variants.{Plain, NotPlain}
-use Rattle.real.specs.declared.Real.the-variants.{R, NotR}
+use Rattle.number.specs.Grammar.{Sign, Fraction}
+use Rattle.number.specs.declared.decimal.Decimal.the-variants.{Plain}
+use Rattle.real.specs.declared.Real.the-variants.{R}
 use Rattle.number.proofs.Laws.Digits.{digits-append, value-append, digit-yes}
 use Rattle.number.proofs.Laws.Grammar.{decimal-read}
 use Rattle.real.proofs.Laws.Real.{real-is}
 use Rattle.cell.specs.Text.{lastDigits, pointed, behindMinus, fixed, blanks, right}
 use Rattle.cell.specs.Places.{roundedTo}
-use Rattle.cell.specs.declared.places.Places.the-variants.{Rounded, NoFit}
+use Rattle.cell.specs.declared.places.Places.the-variants.{Rounded}
 use Rattle.cell.proofs.Laws.Places.{places-few, places-again, written-back, written-same}
 
 -- ---- trim
@@ -105,6 +105,31 @@ last-value (suc k) m n t =
     last-value k m (n / 10) ((48 + n % 10) ∷ t) ∙ ap (λ (z : ℕ). valueFrom z t) same
 
 -- ---- the decimal
+-- the point and what stands behind it
+abbrev pub tailOf : ℕ → ℕ → List ℕ
+tailOf zero n = []
+tailOf (suc q) n = 46 ∷ lastDigits (suc q) n []
+
+tail-fraction : (q n : ℕ) → Fraction (tailOf q n) (lastDigits q n [])
+unfolding lastDigits
+tail-fraction zero n = Fraction.whole
+tail-fraction (suc q) n = Fraction.point (lastDigits (suc q) n [])
+
+tail-between : (q n : ℕ) → Between 45 57 (tailOf q n)
+tail-between zero n = tt
+tail-between (suc q) n =
+    let digs = lastDigits (suc q) n [] in
+    ((omega arith, omega arith), between-more 45 57 digs (omega arith) (omega arith) (last-between (suc q) n [] tt))
+
+pub tail-length : (q n : ℕ) → length (tailOf q n) ≤ q + 1
+tail-length zero n = omega arith
+tail-length (suc q) n = omega (arith, last-length (suc q) n [])
+
+pub pointed-parts : (q n : ℕ) → pointed q n ≡ decimal (n / 10 ^ q) ++ tailOf q n
+unfolding pointed
+pointed-parts zero n = let one : n / 10 ^ 0 ≡ n = div-one n in rw one (sym (append-nil (decimal n)))
+pointed-parts (suc q) n = refl
+
 module _ (q : ℕ) (s : Bool) (n : ℕ) (few : n < 10 ^ 10) where
   front-small : n / 10 ^ q < 2 ^ 64
   front-small = omega (arith, div-le-self n (10 ^ q))
@@ -117,11 +142,12 @@ module _ (q : ℕ) (s : Bool) (n : ℕ) (few : n < 10 ^ 10) where
       sym (value-append a (lastDigits q n []) 0 ∙ rw said (last-value q (n / 10 ^ q) n [] ∙ div-add-mod' n (10 ^ q)))
 
   pointed-between : Between 45 57 (pointed q n)
-  unfolding pointed
   pointed-between =
-      between-append 45 57 (decimal (n / 10 ^ q)) (46 ∷ lastDigits q n [])
-      (between-more 45 57 (decimal (n / 10 ^ q)) (omega arith) (omega arith) (between (n / 10 ^ q) front-small))
-      ((omega arith, omega arith), between-more 45 57 (lastDigits q n []) (omega arith) (omega arith) (last-between q n [] tt))
+      let front = decimal (n / 10 ^ q) in
+      rw (pointed-parts q n)
+      (between-append 45 57 front (tailOf q n)
+      (between-more 45 57 front (omega arith) (omega arith) (between (n / 10 ^ q) front-small))
+      (tail-between q n))
 
   pub fixed-between : Between 45 57 (fixed q s n)
   unfolding fixed
@@ -131,11 +157,11 @@ module _ (q : ℕ) (s : Bool) (n : ℕ) (few : n < 10 ^ 10) where
       go false = pointed-between
       go true = ((omega arith, omega arith), pointed-between)
 
-  sign-of : (g : List ℕ) × Sign s g × (fixed q s n ≡ g ++ decimal (n / 10 ^ q) ++ 46 ∷ lastDigits q n [])
-  unfolding fixed pointed
-  sign-of = go s
+  sign-of : (g : List ℕ) × Sign s g × (fixed q s n ≡ g ++ decimal (n / 10 ^ q) ++ tailOf q n)
+  unfolding fixed
+  sign-of = rw (pointed-parts q n) (go s)
     where
-      go : (s : Bool) → (g : List ℕ) × Sign s g × (behindMinus s (decimal (n / 10 ^ q) ++ 46 ∷ lastDigits q n []) ≡ g ++ decimal (n / 10 ^ q) ++ 46 ∷ lastDigits q n [])
+      go : (s : Bool) → (g : List ℕ) × Sign s g × (behindMinus s (decimal (n / 10 ^ q) ++ tailOf q n) ≡ g ++ decimal (n / 10 ^ q) ++ tailOf q n)
       go false = ([], Sign.unsigned, refl)
       go true = (45 ∷ [], Sign.minus, refl)
 
@@ -149,10 +175,10 @@ module _ (q : ℕ) (s : Bool) (n : ℕ) (few : n < 10 ^ 10) where
       decimal-read (record {
         sign = g;
         front = front;
-        tail = 46 ∷ behind;
+        tail = tailOf q n;
         behind = behind;
         signed = signed;
-        fraction = Fraction.point behind;
+        fraction = tail-fraction q n;
         text = whole ∙ text;
         width = rw whole (le-trans h k);
         some = omega (arith, length-append front behind, decimal-length (n / 10 ^ q) front-small .0);

@@ -1,0 +1,2 @@
+-- What the theorems on written lines speak of.
+pub mod Returned

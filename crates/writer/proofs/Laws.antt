@@ -1,0 +1,4 @@
+-- The laws of the words in specs/.
+pub mod Another
+pub mod Shown
+pub mod When
