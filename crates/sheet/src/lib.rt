@@ -1,7 +1,9 @@
 // A line of 80 bytes, drawn field by field on bytes of one's own and then copied whole. What doesn't fit is told at the end: a pen keeps the
 // columns of the first field that doesn't, so that no field needs a branch of its own.
 ghost use mathlib.Core.Path.{_≡_};
-ghost use Prim.Native.Nat.{_-_};
+ghost use Prim.Native.Nat.{_-_, _≤_};
+ghost use lib.ListN.{length, drop};
+ghost use mathlib.Core.List.{_++_};
 ghost use Rattle.cell.specs.Cell.{Puts};
 ghost use Rattle.cell.specs.Text.{blanks};
 ghost use Rattle.page.specs.Page.{page, put};
@@ -135,6 +137,19 @@ pub fn rule_off(out: &mut [u8], pen: Pen) -> Pen
     Pen { next, miss }
 }
 
+// 80 bytes at the front, without a test for each: they are known to have room.
+fn copy(out: &mut [u8], line: &[u8])
+    requires { ⌜ 80 ≤ length (now out) ⌝ }
+    requires { ⌜ length (now line) ≡ 80 ⌝ }
+    ensures { λ _. ⌜ now (out .exit) ≡ now (line .entry) ++ drop 80 (now (out .entry)) ⌝ }
+{
+    let mut i = 0;
+    while i < 80 {
+        out[i] = line[i];
+        i += 1;
+    }
+}
+
 // The line as it was drawn goes into the lent bytes, if every field fits and there is room. Else these stay as they are.
 pub fn end(out: &mut [u8], line: &[u8], miss: Columns) -> Written
     ensures { λ r. ⌜ specs.Ends (now (out .entry)) (now (line .entry)) miss r (now (out .exit)) ⌝ }
@@ -144,6 +159,10 @@ pub fn end(out: &mut [u8], line: &[u8], miss: Columns) -> Written
     }
     if out.len() < 80 {
         return Written::NoRoom;
+    }
+    if line.len() == 80 {
+        copy(out, line);
+        return Written::Line;
     }
     put_bytes(out, 0, line);
     Written::Line

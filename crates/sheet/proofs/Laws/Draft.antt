@@ -1,29 +1,26 @@
 -- Laws of drawing a line.
---     inked-step              a field by its three calls: blanks, the field itself, the pen
---     mark-fits, -kept, -new  the pen behind a field, by its tests
---     drawn-from, -one, -more     what was drawn so far, with one field behind it, or several
---     fill-none               no blanks up to a column that is behind
---     ends-miss, -short, -line    the end, by its tests
+--     mark-fits, -kept, -new               the pen behind a field, by its tests
+--     inked-step                           a field by its three calls: blanks, the field itself, the pen
+--     fill-none                            no blanks up to a column that is behind
+--     ends-miss, -short, -copied, -line    the end, by its tests
+--     drawn-from, -one, -more              what was drawn so far, with one field behind it, or several
 -- Assumes nothing.
 use mathlib.Core.Path.{_≡_, refl, sym, ap, _∙_}
-use Prim.Native.Nat.{ℕ, _+_, _-_, _^_, _≤_, _<_, min}
+use Prim.Native.Nat.{ℕ, _+_, _-_, _^_, _≤_, _<_}
 use native.Mathlib.Omega.{arith}
-use mathlib.Core.Bool.{Bool, true, false, cond, _&&_, _||_}
-use mathlib.Core.List.{List, [], _∷_, _++_, append-assoc, append-nil}
-use borrow.Author.Tests.{le-ltb, lt-ltb, leb-true}
-use lib.ListN.{length, drop, length-append, drop-of-length-le}
-use lib.Dec.{leb, ltb}
-use Rattle.line.specs.Columns.{_⋯_}
+use mathlib.Core.Bool.{true, false}
+use mathlib.Core.List.{List, [], _∷_, _++_}
+use borrow.Author.Tests.{le-ltb, lt-ltb}
+use lib.ListN.{length, drop}
 use Rattle.line.specs.declared.columns.Columns.{Columns}
 use Rattle.page.specs.Page.{Page, page, put}
-use Rattle.page.proofs.Laws.Page.{put-then, put-append, put-at, put-count, put-front}
+use Rattle.page.proofs.Laws.Page.{put-then, put-front}
 use Rattle.cell.specs.Cell.{Puts}
 use Rattle.cell.specs.Text.{blanks}
 use Rattle.cell.specs.declared.Put.{Put}
-use Rattle.sheet.specs.Sheet.{Cell, _holds_, Sheet, columnsOf, cellFits, cellBytes, cellsFrom, lineOf, ascend, answerOf, afterwards, Writes}
-use Rattle.sheet.specs.Draft.{Draft, draft, begun, missed, inked, marked, drawn, drawnAll, filled, ending, copied, Ends}
+use Rattle.sheet.specs.Sheet.{Cell, columnsOf, cellFits, cellBytes}
+use Rattle.sheet.specs.Draft.{Draft, draft, inked, marked, drawn, drawnAll, Ends}
 use Rattle.sheet.specs.declared.Pen.{Pen}
-use Rattle.sheet.specs.declared.Written.{Written}
 use Rattle.sheet.specs.declared.Written.the-variants.{Line, NoFit, NoRoom}
 
 -- ---- the pen
@@ -60,6 +57,13 @@ module _ (old line : List ℕ) (miss : Columns) where
 
   pub ends-short : miss .end ≤ 0 → length old < 80 → Ends old line miss NoRoom old
   ends-short h k = record { answers = rw (le-ltb 0 (miss .end) h, lt-ltb (length old) 80 k) refl; leaves = refl }
+
+  pub ends-copied : (new : List ℕ) → miss .end ≤ 0 → 80 ≤ length old → length old < 2 ^ 64 → length line ≡ 80 → new ≡ line ++ drop 80 old
+      → Ends old line miss Line new
+  ends-copied new h k short long e = record {
+    answers = rw (le-ltb 0 (miss .end) h, le-ltb (length old) 80 k) refl;
+    leaves = e ∙ sym (put-front old line short (omega arith) ∙ ap (λ (n : ℕ). line ++ drop n old) long);
+  }
 
   pub ends-line : (new : List ℕ) (end : ℕ) → miss .end ≤ 0 → 80 ≤ length old → page new end ≡ put (page old 0) line → Ends old line miss Line new
   ends-line new end h k e = record { answers = rw (le-ltb 0 (miss .end) h, le-ltb (length old) 80 k) refl; leaves = ap (λ (p : Page). p .bytes) e }

@@ -1,9 +1,8 @@
 -- The contracts of this crate leave nothing free: two answers that one allows coincide, with every lent byte.
 -- Assumes nothing.
-use mathlib.Core.Path.{_≡_, refl, sym, ap, _∙_}
+use mathlib.Core.Path.{_≡_, sym, ap, _∙_}
 use mathlib.Core.List.{List}
 use Prim.Native.Nat.{ℕ}
-use Rattle.page.specs.Page.{Page}
 use Rattle.line.specs.declared.columns.Columns.{Columns}
 use Rattle.sheet.specs.Draft.{Draft, draft, copied, Ends}
 use Rattle.sheet.specs.Sheet.{Sheet, lineOf, afterwards, Writes}

@@ -3,7 +3,6 @@
 use mathlib.Core.Path.{_≡_}
 use Prim.Native.Nat.{ℕ, _-_}
 use lib.ListN.{length}
-use Rattle.line.specs.declared.columns.Columns.{Columns}
 use Rattle.page.specs.Numerals.{decimal, signedDecimal}
 use Rattle.cell.specs.Places.{placesOf}
 use Rattle.cell.specs.Words.{chargeText, flagText}
