@@ -1,5 +1,6 @@
 /*
- * saltighedda.h: a line of a PDB file, listed, with what could not be read; and a record, written as a line.
+ * saltighedda.h: a line of a PDB file, listed, with what could not be read; a record, written as a line; and a position, moved by the
+ * rows of a transformation.
  *
  * Every entry takes any bytes and any numbers; nothing has to be checked beforehand. A host has one duty: a buffer is a pointer
  * and the number of bytes that are there, the output's bytes are in no other buffer of the call, and nobody else writes to them
@@ -161,6 +162,35 @@ uint64_t saltighedda_write_model(uint64_t number, uint8_t *out, size_t out_len);
 
 /* A name and blanks: TER, ENDMDL or END if `which` is 0, 1 or 2. */
 uint64_t saltighedda_write_bare(uint32_t which, uint8_t *out, size_t out_len);
+
+/*
+ * Rows of SCALE, ORIGX or MTRIX put to use. A matrix is lent by the host: twelve doubles, row by row, and three bytes that say
+ * which rows are set. With the bytes 0 no row is, whatever the doubles are. SALTIGHEDDA_ROWS and SALTIGHEDDA_SET are their numbers.
+ * The two buffers, and `out`, have no byte in common. The answer is 0, or a refusal, and all that was lent is then as it was:
+ *
+ *     8   a buffer is too short; the place is 0 and the length how many doubles or bytes are needed
+ *     13  `row` is above 2; place and length are 0
+ *     14  a row isn't set; place and length are 0
+ */
+#define SALTIGHEDDA_ROWS 12
+#define SALTIGHEDDA_SET  3
+
+/*
+ * Puts a row's four numbers, `row` 0 to 2 for the names that end in 1 to 3, and makes set[row] 1; an earlier row of its number is
+ * replaced. Families and serials aren't told apart: a host keeps a matrix for each that it collects. 13 is tested first, then
+ * 8 with 12 for `rows`, then 8 with 3 for `set`. What is behind the twelve and the three stays as it was.
+ */
+uint64_t saltighedda_matrix_row(uint64_t row, double a, double b, double c, double d, double *rows, size_t rows_len,
+                                uint8_t *set, size_t set_len);
+
+/*
+ * Moves a position: out[0] to out[2] are ((a x + b y) + c z) + d of the three rows, each operation rounded once, in that order.
+ * Any doubles may be handed in. 14 unless twelve doubles and three bytes other than 0 are there; then 8 with 3 for `out`. What is
+ * behind out[2] stays as it was. For rows and positions that were read from lines, 2^50 times the distance from the exact sum is at
+ * most the sum of the magnitudes of the four terms.
+ */
+uint64_t saltighedda_apply(const double *rows, size_t rows_len, const uint8_t *set, size_t set_len, double x, double y, double z,
+                           double *out, size_t out_len);
 
 /*
  * The same by name: a struct for each family, and a function that hands its members over. A member that an initializer leaves out

@@ -1,5 +1,5 @@
 #!/bin/bash
-# The C face from C: the edges of its entries, what is written beside what printf writes, the example hosts on the sample file, and an
+# The C face from C: the edges of its entries, what is written beside what printf writes, what is moved beside C's own doubles, the example hosts on the sample file, and an
 # installation as a C programmer uses it. All is compiled for x86-64, as the library is. Wants target/staticlib/libsaltighedda.a and
 # target/bin/pdblist. Prints a line for each thing that holds; the status is 1 if one doesn't.
 set -eu
@@ -74,6 +74,56 @@ kept() {
     echo "made.pdb:8: columns 70 to 70: the line is too long or has a byte of 128 or more there, and was not read; $as_it_is"
 } > "$folder/made.pdb.said"
 
+# transformed SERIAL STATUS COMMAND..: the host that moves a file's atoms by its own rows; what it prints and what it says.
+transformed() {
+    local serial=$1 wanted=$2 status=0
+    shift 2
+    (cd "$folder" && "$@" rows.pdb "$serial") > "$folder/moved" 2> "$folder/said" || status=$?
+    [ $status = "$wanted" ] || fail "the transforming host's status is $status and not $wanted: $*"
+    diff -u "$folder/rows.$serial.moved" "$folder/moved" >&2 || fail "the transforming host printed something else: $*"
+    diff -u "$folder/rows.$serial.said" "$folder/said" >&2 || fail "the transforming host said something else: $*"
+}
+
+# Serial 1 turns about z and shifts, its third row once wrong and then replaced; serial 2 lacks the row whose number can't be read. Of the
+# atoms the first two can be moved, the third doesn't fit behind the move, and of the fourth a coordinate wasn't read.
+rows() {
+    echo 'MTRIX1   1  0.000000 -1.000000  0.000000        1.00000'
+    echo 'MTRIX3   1  9.000000  9.000000  9.000000        9.00000'
+    echo 'MTRIX2   1  1.000000  0.000000  0.000000       -0.25000    1'
+    printf 'MTRIX3   1  0.000000  0.000000  1.000000        0.50000\r\n'
+    echo 'MTRIX1   2  1.000000  0.000000  0.000000        0.00000'
+    echo 'MTRIX2   2  0.000000  1.000000  0.0 0000        0.00000'
+    echo 'MTRIX3   2  0.000000  0.000000  1.000000        0.00000'
+}
+still() {
+    echo 'HETATM    3  O   HOH A   3       6.0719999.999  -5.147  1.00 17.90           O  '
+    echo 'HETATM    4  O   HOH A   4      11.639   *.***  -5.147  1.00 17.90           O  '
+    printf 'END'
+}
+left_out="rows.pdb:6: columns 31 to 40: a number was not read; the row is left out"
+{
+    rows
+    echo 'ATOM      1  CA  GLY A   1      11.639   6.071  -5.147  1.00 17.90           C  '
+    printf 'HETATM    2 ZN    ZN A   2      -1.500  -0.250   0.125  0.50  3.00          ZN2+\r\n'
+    still
+} > "$folder/rows.pdb"
+{
+    rows
+    echo 'ATOM      1  CA  GLY A   1      -5.071  11.389  -4.647  1.00 17.90           C  '
+    printf 'HETATM    2 ZN    ZN A   2       1.250  -1.750   0.625  0.50  3.00          ZN2+\r\n'
+    still
+} > "$folder/rows.1.moved"
+{
+    echo "$left_out"
+    echo "rows.pdb:10: columns 31 to 38: x doesn't fit; $as_it_is"
+    echo "rows.pdb:11: columns 39 to 46: y was not read; $as_it_is"
+} > "$folder/rows.1.said"
+: > "$folder/rows.2.moved"
+{
+    echo "$left_out"
+    echo "rows.pdb: not all three rows of MTRIX 2 are there"
+} > "$folder/rows.2.said"
+
 $CC $warned -Iinclude -o "$folder/face" tests/face.c target/staticlib/libsaltighedda.a
 "$run" "$folder/face" || fail "an entry isn't as the header says"
 echo "c: the entries are as the header says"
@@ -89,6 +139,21 @@ $CC $warned -Iinclude -o "$folder/write" tests/write.c target/staticlib/libsalti
 "$run" "$folder/write" || fail "a line isn't written as the header says"
 echo "c: lines are written as the header says, and a million doubles as printf has them"
 
+$CC $warned -Iinclude -o "$folder/matrix" tests/matrix.c target/staticlib/libsaltighedda.a -lm
+"$run" "$folder/matrix" || fail "a matrix isn't as the header says"
+echo "c: rows are collected and positions moved as the header says, a million as C's own doubles have them"
+
+if why=$(missing rust); then
+    echo "c: left out: $why"
+else
+    $CC $warned -Iinclude -o "$folder/rows" tests/rows.c target/staticlib/libsaltighedda.a
+    "$run" "$folder/rows" > "$folder/collected" || fail "a row is refused that the Rust takes"
+    PDBTBX_SRC=$(cd "$rust_source" && pwd) "${RUSTC:-rustc}" --edition 2021 -O -o "$folder/rust-rows" differential/rows.rs
+    "$folder/rust-rows" > "$folder/rust-collected"
+    cmp "$folder/rust-collected" "$folder/collected" >&2 || fail "rows are collected otherwise than by the Rust"
+    echo "c: $(wc -l < "$folder/collected") drawn rows are collected as by the Rust, with $(grep -vc none "$folder/collected") matrices"
+fi
+
 $CC $warned -Iinclude -o "$folder/edit" examples/edit.c target/staticlib/libsaltighedda.a
 edited zinc.pdb "$run" "$folder/edit"
 edited made.pdb "$run" "$folder/edit"
@@ -97,6 +162,11 @@ status=0
 [ $status = 2 ] && grep -q '^edit: ' "$folder/why" || fail "the editing host doesn't say that it can't write"
 echo "c: the editing host moves zincs, and tells which it couldn't write"
 
+$CC $warned -Iinclude -o "$folder/transform" examples/transform.c target/staticlib/libsaltighedda.a
+transformed 1 1 "$run" "$folder/transform"
+transformed 2 2 "$run" "$folder/transform"
+echo "c: the transforming host moves a file's atoms by its own rows, and tells which it couldn't"
+
 if why=$(missing valgrind); then
     echo "c: left out: $why"
 else
@@ -104,8 +174,11 @@ else
     $memory "$folder/face" || fail "valgrind found a fault in the use of memory"
     told $memory "$folder/host"
     $memory "$folder/write" 5000 || fail "valgrind found a fault in the use of memory"
+    $memory "$folder/matrix" 5000 || fail "valgrind found a fault in the use of memory"
     edited zinc.pdb $memory "$folder/edit"
     edited made.pdb $memory "$folder/edit"
+    transformed 1 1 $memory "$folder/transform"
+    transformed 2 2 $memory "$folder/transform"
     echo "c: and so under valgrind"
 fi
 

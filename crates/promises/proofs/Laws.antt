@@ -3,6 +3,7 @@ pub mod RealsNamed
 pub mod RealsTable
 pub mod RealsField
 pub mod Reals
+pub mod Held
 pub mod Kinds
 pub mod Fields
 pub mod Agreeing

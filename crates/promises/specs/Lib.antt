@@ -1,5 +1,6 @@
 -- What the theorems of this crate speak of, besides the words of the crates below.
 pub mod Reals
+pub mod Held
 pub mod Departures
 pub mod Refusing
 pub mod Numbered

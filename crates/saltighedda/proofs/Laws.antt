@@ -3,3 +3,4 @@
 pub mod Face
 pub mod One
 pub mod Write
+pub mod Matrix

@@ -1,3 +1,4 @@
 -- The words that the contracts of the C face cite.
 pub mod Face
 pub mod Write
+pub mod Matrix

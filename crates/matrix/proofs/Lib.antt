@@ -1,0 +1,2 @@
+-- The laws beside the proof files.
+pub mod Laws
