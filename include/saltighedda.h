@@ -1,6 +1,6 @@
 /*
- * saltighedda.h: a line of a PDB file, listed, with what could not be read; a record, written as a line; and a position, moved by the
- * rows of a transformation.
+ * saltighedda.h: a line of a PDB file, listed, with what could not be read and how many decimals were written; a record, written as a
+ * line; and a position, moved by the rows of a transformation.
  *
  * Every entry takes any bytes and any numbers; nothing has to be checked beforehand. A host has one duty: a buffer is a pointer
  * and the number of bytes that are there, the output's bytes are in no other buffer of the call, and nobody else writes to them
@@ -82,6 +82,22 @@ size_t saltighedda_list_place(const uint8_t *line, size_t line_len, size_t numbe
 /* How many columns it is about; for refusal 8, the bytes needed. Returns 0 if there is no refusal. */
 size_t saltighedda_list_length(const uint8_t *line, size_t line_len, size_t number, uint32_t options,
                                const uint8_t *remarks, size_t remarks_len, uint8_t *out, size_t out_len);
+
+/* No record has more reals in places of their own than so many. */
+#define SALTIGHEDDA_PLACES 6
+
+/*
+ * How many decimals were written: one byte for each real of the line's record, ascending by column, at the front of `out`: how many
+ * digits stand behind the point, trailing zeros among them, 0 to 9, and 0 where the field has its default. Returns how many bytes
+ * there are; what follows them in `out` stays as it was. ATOM and HETATM have five, CRYST1 six, SCALE, ORIGX and MTRIX four, and an
+ * SSBOND of 78 bytes or more has one. ANISOU's six are whole numbers and have none. Returns 0 if the record has none, if `out` has
+ * fewer bytes than there are, or if saltighedda_list would refuse the line whatever the room; all of `out` is then as it was.
+ *
+ * The bytes are what the entries below take as `places`: a record that is written with them has in each real that was read the same
+ * sign, digits and places, or is refused.
+ */
+size_t saltighedda_places(const uint8_t *line, size_t line_len, size_t number, uint32_t options,
+                          const uint8_t *remarks, size_t remarks_len, uint8_t *out, size_t out_len);
 
 /*
  * Writing. Each of the entries below writes a record as a line of 80 bytes, without a line end, at the front of `out`, in the

@@ -1,6 +1,7 @@
 #!/bin/bash
-# The C face from C: the edges of its entries, what is written beside what printf writes, what is moved beside C's own doubles, the example hosts on the sample file, and an
-# installation as a C programmer uses it. All is compiled for x86-64, as the library is. Wants target/staticlib/libsaltighedda.a and
+# The C face from C: the edges of its entries, what is written beside what printf writes, what is moved beside C's own doubles, how many
+# decimals were read beside how many were drawn, the example hosts on the sample file and on made ones, and an installation as a C
+# programmer uses it. All is compiled for x86-64, as the library is. Wants target/staticlib/libsaltighedda.a and
 # target/bin/pdblist. Prints a line for each thing that holds; the status is 1 if one doesn't.
 set -eu
 cd "$(dirname "${BASH_SOURCE[0]}")/.."
@@ -124,6 +125,100 @@ left_out="rows.pdb:6: columns 31 to 40: a number was not read; the row is left o
     echo "rows.pdb: not all three rows of MTRIX 2 are there"
 } > "$folder/rows.2.said"
 
+# rewritten FILE STATUS COMMAND..: the host that writes a file anew from its fields; what it prints and what it says.
+rewritten() {
+    local file=$1 wanted=$2 status=0
+    shift 2
+    (cd "$folder" && "$@" "$file") > "$folder/again" 2> "$folder/said" || status=$?
+    [ $status = "$wanted" ] || fail "the rewriting host's status is $status and not $wanted: $*"
+    cmp "$folder/$file.again" "$folder/again" >&2 || fail "the rewriting host printed something else: $*"
+    diff -u "$folder/$file.said" "$folder/said" >&2 || fail "the rewriting host said something else: $*"
+}
+
+# Every field stands where the format has it, with decimals of all sorts, and comes back byte for byte: lines of 80 bytes, shorter and longer
+# ones, with LF, with CR LF and with none at the end; and beside them kinds that aren't written, a remark that would be refused among them.
+{
+    echo 'HEADER    A SHORT ONE'
+    echo 'REMARK   3 A REMARK OF EIGHTY BYTES AND MORE, WHICH IS REFUSED UNLESS READING IS LOOSE, BY REFUSAL 5.'
+    echo 'CRYST1   42.570    42.57     61.9  90.00   90.0    120 P 31 2 1      6          '
+    echo 'SCALE1       0.01000      -0.5 0.0000000        0.00000'
+    echo 'ORIGX2             0       1.0     -0.00           12.5                         '
+    echo 'MTRIX3   1  0.000000 -1.000000         1     0.12345678    1'
+    echo 'MTRIX1 999      1.50       1.5      1500              0      '
+    echo 'MODEL        1'
+    echo 'ATOM      1  CA  GLY A   1        1.50     1.5      12  1.00  17.9           C  '
+    echo 'ANISOU    1  CA  GLY A   1     2551   2403   2702    112    -87      0       C  '
+    printf 'HETATM    2 ZN  B ZN A-101C     -0.250     0.0      -0     10.5000      SEG ZN2+\r\n'
+    echo 'HETATM    3  O   HOH A 102    0.123456-0.12345-12345670.0000-99.99           O'
+    echo 'HETATM    4  O   HOH A 103       1.500   1.000 100.000  1.00  0.00           O        '
+    echo 'TER       5      HOH A 103'
+    printf 'TER\r\n'
+    echo 'ENDMDL'
+    echo 'ENDMDL    '
+    echo
+    printf 'END   '
+} > "$folder/same.pdb"
+cp "$folder/same.pdb" "$folder/same.pdb.again"
+: > "$folder/same.pdb.said"
+
+# The lines of which something would be lost: what doesn't fit with a digit before its point, what isn't a number, a line that is cut, half a
+# charge, a tab in a name, a byte of 128 or more, bytes in columns of no field, a cell that has no Z or is cut, and a mark that is no mark.
+lost() {
+    echo 'ATOM      5  CB  GLY A   1    .1234567   1.000   1.000  1.00 17.90           C  '
+    echo 'ATOM      6  CB  GLY A   1    -.123456   1.000   1.000  1.00 17.90           C  '
+    echo 'ATOM      7  CB  GLY A   1       1.500   *.***   1.000  1.00 17.90           C  '
+    echo 'ATOM      8  CB  GLY A   1       1.500   1.0'
+    echo 'ANISOU    8  CB  GLY A   1     2551   2403   2702    112    -87     31       C1'
+    printf 'ATOM      9  CB\t GLY A   1       1.500   1.000   1.000  1.00 17.90           C  \n'
+    printf 'ATOM     10  CB  GLY A   1       1.500   1.000   1.000  1.00 17.90  \302\265       C  \n'
+    echo 'ATOM     11  CB  GLYXA   1       1.500   1.000   1.000  1.00 17.90           C  '
+    echo 'ATOM     12  CB  GLY A   1       1.500   1.000   1.000  1.00 17.90           C    x'
+    echo 'CRYST1   42.570    42.57     61.9  90.00   90.0    120 P 31 2 1'
+    echo 'CRYST1   42.570    42.57     61.9'
+    echo 'SCALE2       0.01000 .12345678   1.5.0000        0.00000'
+    echo 'ORIGX2    .123456789      -0.5 0.0000000        0.00000'
+    echo 'MTRIX1   1  0.000000 -1.000000         1     0.12345678    2'
+    echo 'MODEL    10000'
+    echo 'ATOM'
+    printf 'HEADER \302\265\n'
+    echo 'TERX'
+}
+{
+    echo 'ATOM      1  CA  GLY A   1         .50      5.    +1.0   -0. 007.5           C  '
+    printf 'ATOM     +2 ZN   ZN  A-001     1.50   -.50    0012.    0.50 +.1           S C 0+\r\n'
+    echo 'CRYST1 42.570  42.57         61.990.      90.0   +120    P 1      1   '
+    echo 'SCALE1    +0.010       -.5    0000012.50     -0.       '
+    echo 'MODEL 2'
+    lost
+    printf 'END'
+} > "$folder/other.pdb"
+{
+    echo 'ATOM      1  CA  GLY A   1        0.50       5     1.0    -0   7.5           C  '
+    printf 'ATOM      2 ZN    ZN A  -1        1.50   -0.50      12  0.50   0.1      S    C  \r\n'
+    echo 'CRYST1   42.570    42.57     61.9     90   90.0    120 P 1           1'
+    echo 'SCALE1         0.010      -0.5     12.50             -0'
+    echo 'MODEL        2'
+    lost
+    printf 'END'
+} > "$folder/other.pdb.again"
+{
+    echo "other.pdb:6: columns 31 to 38: x doesn't fit as it was written; $as_it_is"
+    echo "other.pdb:7: columns 31 to 38: x doesn't fit as it was written; $as_it_is"
+    echo "other.pdb:8: columns 39 to 46: y was not read; $as_it_is"
+    echo "other.pdb:9: columns 39 to 46: y was not read; $as_it_is"
+    echo "other.pdb:10: columns 79 to 80: the charge was not read; $as_it_is"
+    echo "other.pdb:11: columns 13 to 16: the atom's name doesn't fit as it was written; $as_it_is"
+    echo "other.pdb:12: columns 69 to 69: the line is too long or has a byte of 128 or more there, and was not read; $as_it_is"
+    echo "other.pdb:13: columns 21 to 21: something is in no field; $as_it_is"
+    echo "other.pdb:14: columns 83 to 83: something is in no field; $as_it_is"
+    echo "other.pdb:15: columns 67 to 70: Z was not read; $as_it_is"
+    echo "other.pdb:16: columns 34 to 55: the line is too short, and was not read; $as_it_is"
+    echo "other.pdb:17: columns 31 to 40: a factor was not read; $as_it_is"
+    echo "other.pdb:18: columns 11 to 20: a factor doesn't fit as it was written; $as_it_is"
+    echo "other.pdb:19: columns 60 to 60: the mark was not read; $as_it_is"
+    echo "other.pdb:20: columns 11 to 14: the number doesn't fit as it was written; $as_it_is"
+} > "$folder/other.pdb.said"
+
 $CC $warned -Iinclude -o "$folder/face" tests/face.c target/staticlib/libsaltighedda.a
 "$run" "$folder/face" || fail "an entry isn't as the header says"
 echo "c: the entries are as the header says"
@@ -142,6 +237,10 @@ echo "c: lines are written as the header says, and a million doubles as printf h
 $CC $warned -Iinclude -o "$folder/matrix" tests/matrix.c target/staticlib/libsaltighedda.a -lm
 "$run" "$folder/matrix" || fail "a matrix isn't as the header says"
 echo "c: rows are collected and positions moved as the header says, a million as C's own doubles have them"
+
+$CC $warned -Iinclude -o "$folder/places" tests/places.c target/staticlib/libsaltighedda.a
+"$run" "$folder/places" || fail "places aren't as the header says"
+echo "c: a million drawn fields have the places that were written, and come back digit for digit"
 
 if why=$(missing rust); then
     echo "c: left out: $why"
@@ -167,6 +266,14 @@ transformed 1 1 "$run" "$folder/transform"
 transformed 2 2 "$run" "$folder/transform"
 echo "c: the transforming host moves a file's atoms by its own rows, and tells which it couldn't"
 
+$CC $warned -Iinclude -o "$folder/rewrite" examples/rewrite.c target/staticlib/libsaltighedda.a
+rewritten same.pdb 0 "$run" "$folder/rewrite"
+rewritten other.pdb 1 "$run" "$folder/rewrite"
+status=0
+"$run" "$folder/rewrite" "$folder/same.pdb" 2> "$folder/why" > /dev/full || status=$?
+[ $status = 2 ] && grep -q '^rewrite: ' "$folder/why" || fail "the rewriting host doesn't say that it can't write"
+echo "c: the rewriting host gives a file back byte for byte, and tells which lines it couldn't write"
+
 if why=$(missing valgrind); then
     echo "c: left out: $why"
 else
@@ -179,6 +286,9 @@ else
     edited made.pdb $memory "$folder/edit"
     transformed 1 1 $memory "$folder/transform"
     transformed 2 2 $memory "$folder/transform"
+    $memory "$folder/places" 5000 || fail "valgrind found a fault in the use of memory"
+    rewritten same.pdb 0 $memory "$folder/rewrite"
+    rewritten other.pdb 1 $memory "$folder/rewrite"
     echo "c: and so under valgrind"
 fi
 

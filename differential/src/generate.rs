@@ -22,8 +22,17 @@ pub struct Input {
     pub table: usize,
     /// How many bytes of output are lent.
     pub room: usize,
-    /// Whether the record is to be written, and not listed.
-    pub write: bool,
+    pub task: Task,
+}
+
+/// What is asked of the port, as serve has it in the bits behind the options.
+#[derive(Clone, Copy, Debug, PartialEq, Eq, PartialOrd, Ord)]
+pub enum Task {
+    List = 0,
+    /// To write the record, in the format's places.
+    Write = 1,
+    /// To write it, each real in as many places as it was read with.
+    WriteAsRead = 3,
 }
 
 impl Input {
@@ -34,7 +43,7 @@ impl Input {
             options: 0,
             table: tables::CRATE,
             room: ROOM,
-            write: false,
+            task: Task::List,
         }
     }
 
@@ -66,8 +75,6 @@ pub struct Plan {
     counted: Vec<(Section, u64)>,
     /// The sections that are drawn from, with their shares in a hundred.
     drawn: &'static [Section],
-    /// Whether the records are written.
-    write: bool,
 }
 
 impl Plan {
@@ -78,8 +85,7 @@ impl Plan {
 
     /// Lines whose records are written.
     pub fn records(seed: u64, count: u64, files: Vec<Vec<u8>>) -> Self {
-        let plan = Plan::over(records::sections(), records::SECTIONS, seed, count, files);
-        Plan { write: true, ..plan }
+        Plan::over(records::sections(), records::SECTIONS, seed, count, files)
     }
 
     fn over(
@@ -105,7 +111,6 @@ impl Plan {
             files,
             counted: sections.into_iter().map(|section| (section, section.1.min(share))).collect(),
             drawn,
-            write: false,
         }
     }
 
@@ -122,12 +127,11 @@ impl Plan {
         4 * self.files.len() as u64
     }
 
-    /// Makes one case.
+    /// Makes one case, but for its task.
     pub fn make(&self, index: u64, input: &mut Input) {
         let mut random = Random::new(self.seed, index);
         let random = &mut random;
         input.line.clear();
-        input.write = self.write;
         input.number = line_number(random);
         input.options = random.pick(&[0, 0, 0, 0, 2, 2, 2, 1, 3]);
         input.table = Tables::pick(random);

@@ -43,7 +43,7 @@ const USAGE: &str = "differential [--count N | --short] [--seed N] [--threads N]
     compares N lines (10,000,000; short: 1,000,000); lines of each FILE come first, whole and damaged;
     PORT is the program that answers for the port, and without one the Rust is held to 01 alone
 differential --write [--count N | --short] ..
-    compares what is written of N records (1,000,000; short: 100,000), with the same words
+    compares what is written of N records in two ways (1,000,000; short: 100,000), with the same words
 differential --list
     what pdblist prints for standard input, by the oracle
 differential --sample PREFIX LINES [--seed N]

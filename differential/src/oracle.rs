@@ -4,7 +4,7 @@
 use crate::columns::{kind_of, KINDS};
 use crate::domain::{class_of, outside_reals, Class};
 use crate::error::{ErrorLevel, PDBError};
-use crate::generate::Input;
+use crate::generate::{Input, Task};
 use crate::page::Page;
 use crate::reference_tables;
 use crate::rust::lexitem::LexItem;
@@ -140,7 +140,8 @@ impl Oracle {
             }
         }
 
-        if verdict.refusal.number == 0 && !input.write && self.page.bytes.len() > input.room {
+        let listed = input.task == Task::List;
+        if verdict.refusal.number == 0 && listed && self.page.bytes.len() > input.room {
             verdict.refusal = refusal(8, 0, self.page.bytes.len());
         }
         verdict

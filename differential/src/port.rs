@@ -14,8 +14,8 @@ pub const BLOCK: usize = 15;
 /// The bytes of a request: five words, the line, and the table behind it.
 const REQUEST: usize = 4096;
 const HEAD: usize = 40;
-/// The bit of the options word that asks for the record to be written.
-const WRITE: u32 = 32;
+/// The bit of the options word where the task begins.
+const TASK: u32 = 32;
 /// The bytes of a reply: what each of the four calls answered, the sorts of the faults, a word
 /// each, and the output.
 const REPLY: usize = TOLD + OUTPUT;
@@ -68,7 +68,7 @@ impl Port {
             let table = tables.bytes(input.table);
             let words = [
                 input.number as u64,
-                u64::from(input.options) | u64::from(input.write) << WRITE,
+                u64::from(input.options) | (input.task as u64) << TASK,
                 input.line.len() as u64,
                 table.len() as u64,
                 input.room as u64,

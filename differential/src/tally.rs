@@ -23,7 +23,7 @@ impl Shown {
     fn before(&self, other: &Shown) -> bool {
         let key = |shown: &Shown| {
             let input = &shown.input;
-            (input.line.len(), input.options, input.room, input.table, input.number)
+            (input.line.len(), input.options, input.room, input.table, input.number, input.task)
         };
         (key(self), &self.input.line) < (key(other), &other.input.line)
     }

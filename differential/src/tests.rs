@@ -8,8 +8,7 @@ use crate::random::Random;
 use crate::rust::lexitem::LexItem;
 use crate::sample::{lines, listed};
 use crate::tables::{self, Tables};
-use crate::writing::{self, nearest};
-use crate::written::places_of;
+use crate::writing::{self, nearest, places_of};
 use crate::{rust, Input};
 use std::sync::Once;
 
@@ -286,12 +285,18 @@ fn lines_of_a_file() {
 
 /// What is written of the record that the Rust reads of a line, or the refusal.
 fn written(line: &str) -> Result<String, Refusal> {
+    written_in(line, false)
+}
+
+/// The same in the places that were read, or in the format's.
+fn written_in(line: &str, as_read: bool) -> Result<String, Refusal> {
     let mut input = Input::new();
     input.line = line.as_bytes().to_vec();
     let mut oracle = Oracle::new();
     oracle.answer(&input, &tables());
     let name = input.line.get(12..16).unwrap_or(b"    ");
-    let bytes = writing::line(&oracle.item.unwrap(), name, 80)?;
+    let read = as_read.then_some(&*input.line);
+    let bytes = writing::line(&oracle.item.unwrap(), name, read, 80)?;
     Ok(String::from_utf8(bytes.to_vec()).unwrap())
 }
 
@@ -378,8 +383,37 @@ fn fields_that_do_not_fit() {
 }
 
 #[test]
+fn reals_in_the_places_that_were_read() {
+    for (start, read, stands) in [
+        (30, "5.      ", "       5"), (30, "     5.0", "     5.0"), (30, "-.5     ", "    -0.5"), (38, "+007.50 ", "    7.50"),
+        (38, "-0      ", "      -0"), (46, "0.123456", "0.123456"), (46, ".123456 ", "0.123456"), (54, "\t1.000\t", " 1.000"),
+        (54, "x     ", "     1"), (60, "x     ", "     0"), (60, "999999", "999999"), (30, "1.5e3   ", "       0"),
+    ] {
+        assert_eq!(written_in(&with(AN_ATOM, start, read), true).unwrap(), with(AN_ATOM, start, stands), "{read}");
+    }
+    assert_eq!(
+        written_in("ATOM   ", true).unwrap(),
+        padded("ATOM      0              0           0       0       0     1     0", 80)
+    );
+    let row = "SCALE1    0.123456781234567890 -.1234567          5.00 ";
+    assert_eq!(written_in(row, true).unwrap(), padded("SCALE1    0.123456781234567890-0.1234567           5.00", 80));
+    let cell = "CRYST1    1        2.00     3.0    90.00  90.0   90.   P 1           1";
+    assert_eq!(
+        written_in(cell, true).unwrap(),
+        padded("CRYST1        1     2.00      3.0  90.00   90.0     90 P 1           1", 80)
+    );
+    let anisou = "ANISOU    1  N   VAL A   1     2406   1892   1614    198    519   -328       N  ";
+    assert_eq!(written_in(anisou, true).as_deref(), Ok(anisou));
+    // A digit before the point may be one too many, and the first by column counts.
+    let two = with(&with(AN_ATOM, 38, ".1234567"), 60, "-.1234");
+    assert_eq!(written_in(&two, true), nine(38, 8));
+    assert_eq!(written_in(&with(&two, 38, "   1.000"), true), nine(60, 6));
+    assert_eq!(written_in("SCALE2    .123456789", true), nine(10, 10));
+}
+
+#[test]
 fn records_that_no_line_gives() {
-    let line = |item: &LexItem, name: &[u8], room| match writing::line(item, name, room) {
+    let line = |item: &LexItem, name: &[u8], room| match writing::line(item, name, None, room) {
         Ok(line) => Ok(String::from_utf8(line.to_vec()).unwrap()),
         Err(refusal) => Err(refusal),
     };
@@ -439,8 +473,14 @@ fn the_nearest_decimal() {
 fn places_of_a_field() {
     for (field, places) in [
         ("  1.50", 2), ("5.", 0), (".5", 1), ("-.500", 3), ("+1", 0), ("x", 0), ("1.5e3", 0), ("", 0), ("\t1.0\x0B", 1),
+        (".123456789", 9), ("0.00000000", 8), ("-.", 0), (".", 0), ("1.5.", 0), ("1 .5", 0), ("0x.5", 0),
     ] {
         assert_eq!(places_of(Some(field.as_bytes())), places, "{field}");
     }
     assert_eq!(places_of(None), 0);
+    for places in 0..10 {
+        for digit in ["0", "5"] {
+            assert_eq!(places_of(Some(format!("-7.{}", digit.repeat(places)).as_bytes())), places as u32);
+        }
+    }
 }

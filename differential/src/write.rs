@@ -1,19 +1,24 @@
 //! The run that writes: the port is asked for the line of each record, then for the listing of that
-//! line, and then for the line of what it reads there; see `written` for what each is held to.
+//! line, and then for the line of what it reads there, all in the format's places and then in those
+//! that were read; see `written` for what each is held to.
 
 use crate::columns::KINDS;
 use crate::compare::{seen, Desk, Due};
-use crate::generate::{Input, Plan, ROOM};
+use crate::generate::{Input, Plan, Task, ROOM};
 use crate::port::{BLOCK, UNWRITTEN};
 use crate::tables::Tables;
 use crate::tally::{add_all, described, keep_smaller, shrunk, Shown};
-use crate::writing::LONG;
-use crate::written::{returned, told, wanted, wrong, Reals, Wanted};
+use crate::writing::{places_of, LONG};
+use crate::written::{reals, returned, told, wanted, wrong, Reals, Wanted};
 use crate::{print_sides, share, Words, STRIDE};
 use std::collections::BTreeMap;
 use std::io;
 use std::process::ExitCode;
 use std::sync::atomic::{AtomicU64, Ordering};
+
+/// The ways in which each record is written, and what they are called.
+const WAYS: [(Task, &str); 2] =
+    [(Task::Write, "in the format's places"), (Task::WriteAsRead, "in the places that were read")];
 
 /// What came of one record.
 struct Judged {
@@ -72,7 +77,8 @@ fn judge(
             let found = match write {
                 false => {
                     let answered = answer.and_then(|it| seen(&due.verdict, &due.listing, it).wrong);
-                    returned(&judged.input.line, &judged.due, due, &mut judged.reals).or(answered)
+                    let (first, count) = (&judged.due, &mut judged.reals);
+                    returned(&judged.input, first, &input.line, due, count).or(answered)
                 }
                 true => {
                     let same = wanted(input, due);
@@ -94,12 +100,12 @@ fn again(judged: &Judged, write: bool) -> Input {
     Input {
         line: judged.line.clone().unwrap_or_default(),
         room: ROOM,
-        write,
+        task: if write { judged.input.task } else { Task::List },
         ..judged.input.clone()
     }
 }
 
-/// What a run counts.
+/// What a run counts of one way.
 #[derive(Default)]
 struct Tally {
     /// By kind: written, refused with 9, refused with 8, not read.
@@ -108,6 +114,8 @@ struct Tally {
     faulty: [u64; 2],
     /// Refusals 9 by kind and place.
     places: BTreeMap<(usize, usize), u64>,
+    /// The reals among these, by the number of places that were read.
+    unfit: [u64; 10],
     reals: Reals,
     /// What is wrong, how often, and the smallest line.
     wrong: BTreeMap<&'static str, (u64, Option<Shown>)>,
@@ -121,6 +129,11 @@ impl Tally {
             Wanted::Line(_) => 0,
             Wanted::Refused(refusal) if refusal.number == 9 => {
                 *self.places.entry((kind, refusal.place)).or_default() += 1;
+                if reals(KINDS[kind].name).iter().any(|real| real.0 == refusal.place) {
+                    let end = refusal.place + refusal.length;
+                    let field = judged.input.line.get(refusal.place..end);
+                    self.unfit[places_of(field) as usize] += 1;
+                }
                 1
             }
             Wanted::Refused(_) => 2,
@@ -151,6 +164,7 @@ impl Tally {
         for (place, count) in other.places {
             *self.places.entry(place).or_default() += count;
         }
+        add_all(&mut self.unfit, &other.unfit);
         self.reals.add(&other.reals);
         for (why, (count, shown)) in other.wrong {
             if let Some(shown) = shown {
@@ -159,8 +173,8 @@ impl Tally {
         }
     }
 
-    fn print(&self) {
-        println!("\nBy kind and answer:");
+    fn print(&self, (task, way): (Task, &str)) {
+        println!("\nWritten {way}, by kind and answer:");
         let heads = ["records", "written", "refused 9", "refused 8", "not read"];
         println!("{:8}{}", "", heads.map(|head| format!("{head:>11}")).concat());
         let mut sums = [0; 4];
@@ -181,12 +195,27 @@ impl Tally {
                 println!("    {}: {}", kind.name, counts.join(", "));
             }
         }
+        if task == Task::WriteAsRead {
+            println!("reals that didn't fit, by their places: {}", by_places(&self.unfit));
+            println!("reals that came back, by their places: {}", by_places(&self.reals.as_read));
+            println!("defaults that came back: {}", self.reals.defaults);
+            return;
+        }
         println!(
             "reals that were written and came back: {} with no more places than are written, {} \
             with more, of these {} in the middle between two decimals; {} as a zero with a sign",
             self.reals.kept, self.reals.rounded, self.reals.ties, self.reals.minus_zeros
         );
     }
+
+    fn written(&self) -> u64 {
+        self.kinds.iter().map(|counts| counts[0]).sum()
+    }
+}
+
+fn by_places(counts: &[u64; 10]) -> String {
+    let all: Vec<_> = counts.iter().enumerate().map(|(at, n)| format!("{at}: {n}")).collect();
+    all.join(", ")
 }
 
 fn print_kind(name: &str, counts: &[u64; 4]) {
@@ -198,56 +227,77 @@ fn print_kind(name: &str, counts: &[u64; 4]) {
 /// Runs every case and says what came of it: success if nothing was wrong.
 pub fn write_all(words: &Words, count: u64, tables: &Tables) -> io::Result<ExitCode> {
     let plan = Plan::records(words.seed, count, words.files.clone());
-    println!("seed {}, {} records to write", plan.seed, plan.count);
+    println!("seed {}, {} records to write, each in two ways", plan.seed, plan.count);
     print_sides(&words.port, "the writer of this program is held to the Rust alone");
     for (name, count) in plan.sections() {
         println!("    {name}: {count}");
     }
     let run = |next: &AtomicU64| run(&plan, tables, &words.port, next);
-    let mut tally = Tally::default();
-    for other in share(words.threads, plan.count, "records", run)? {
-        tally.add(other);
+    let mut tallies: [Tally; 2] = Default::default();
+    for others in share(words.threads, plan.count, "records", run)? {
+        for (tally, other) in tallies.iter_mut().zip(others) {
+            tally.add(other);
+        }
     }
-    tally.print();
-    verdict(&tally, tables, &words.port)
+    for (tally, way) in tallies.iter().zip(WAYS) {
+        tally.print(way);
+    }
+    verdict(&tallies, tables, &words.port)
 }
 
 /// One thread's share of the cases, with a port of its own.
-fn run(plan: &Plan, tables: &Tables, port: &[String], next: &AtomicU64) -> io::Result<Tally> {
-    let mut tally = Tally::default();
+fn run(plan: &Plan, tables: &Tables, port: &[String], next: &AtomicU64) -> io::Result<[Tally; 2]> {
+    let mut tallies: [Tally; 2] = Default::default();
     let mut desk = Desk::new(port)?;
     loop {
         let first = next.fetch_add(STRIDE, Ordering::Relaxed);
         if first >= plan.count {
-            return Ok(tally);
+            return Ok(tallies);
         }
         let end = plan.count.min(first + STRIDE);
         for start in (first..end).step_by(BLOCK) {
             let count = BLOCK.min((end - start) as usize);
-            let make = |at, input: &mut Input| plan.make(start + at as u64, input);
-            for judged in judge(&mut desk, count, tables, make)? {
-                tally.count(&judged);
+            for (tally, (task, _)) in tallies.iter_mut().zip(WAYS) {
+                let make = |at, input: &mut Input| {
+                    plan.make(start + at as u64, input);
+                    input.task = task;
+                };
+                for judged in judge(&mut desk, count, tables, make)? {
+                    tally.count(&judged);
+                }
             }
         }
     }
 }
 
 /// The last word: what was wrong, each with its smallest line.
-fn verdict(tally: &Tally, tables: &Tables, port: &[String]) -> io::Result<ExitCode> {
-    for (why, (count, shown)) in &tally.wrong {
-        println!("\nDIFFERENCE in {count} records: {why}");
-        if let Some(shown) = shown {
-            explain(shown, tables, &mut Desk::new(port)?)?;
+fn verdict(tallies: &[Tally; 2], tables: &Tables, port: &[String]) -> io::Result<ExitCode> {
+    for (tally, (_, way)) in tallies.iter().zip(WAYS) {
+        for (why, (count, shown)) in &tally.wrong {
+            println!("\nDIFFERENCE in {count} records, {way}: {why}");
+            if let Some(shown) = shown {
+                explain(shown, tables, &mut Desk::new(port)?)?;
+            }
         }
     }
-    let all: u64 = tally.kinds.iter().flatten().sum();
-    let written: u64 = tally.kinds.iter().map(|counts| counts[0]).sum();
-    let (what, code) = match (tally.wrong.is_empty(), port) {
+    let [usual, as_read] = tallies;
+    let all: u64 = usual.kinds.iter().flatten().sum();
+    let counts = as_read.reals.as_read.iter().zip(as_read.unfit).enumerate();
+    let places: Vec<_> =
+        counts.filter(|(_, (fit, unfit))| **fit + unfit > 0).map(|it| it.0.to_string()).collect();
+    let (what, code) = match (tallies.iter().all(|tally| tally.wrong.is_empty()), port) {
         (true, []) => ("what is written comes back; no port was compared", ExitCode::SUCCESS),
         (true, _) => ("no difference", ExitCode::SUCCESS),
         (false, _) => ("DIFFERENT", ExitCode::FAILURE),
     };
-    println!("\n{what}: {all} records, {written} of them written and read again");
+    println!(
+        "\n{what}: {all} records, {} of them written and read again; in the places that were read \
+        {}, with {} reals; numbers of places: {}",
+        usual.written(),
+        as_read.written(),
+        as_read.reals.as_read.iter().sum::<u64>(),
+        places.join(" ")
+    );
     Ok(code)
 }
 

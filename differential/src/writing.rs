@@ -1,6 +1,8 @@
 //! A writer of records that knows nothing of the port: 80 bytes in the columns and places of wwPDB
-//! 3.30, as 02 has it (2026-01), or the refusal of the first field by column that doesn't fit.
+//! 3.30, as 02 has it (2026-01), or in the places that were read (2026-02); or the refusal of the
+//! first field by column that doesn't fit.
 
+use crate::columns::trimmed;
 use crate::oracle::Refusal;
 use crate::rust::lexitem::LexItem;
 
@@ -29,8 +31,14 @@ enum Value<'a> {
 /// A field: its first column, the one after its last, and what stands there.
 type Field<'a> = (usize, usize, Value<'a>);
 
-/// The line of a record with the lent name, given so much room.
-pub fn line(item: &LexItem, name: &[u8], room: usize) -> Result<[u8; LONG], Refusal> {
+/// The line of a record with the lent name, given so much room. Where the line is named that it was
+/// read of, each real has as many places as there.
+pub fn line(
+    item: &LexItem,
+    name: &[u8],
+    read: Option<&[u8]>,
+    room: usize,
+) -> Result<[u8; LONG], Refusal> {
     let Some((first, fields)) = fields(item, name) else {
         return Err(Refusal { number: 9, place: 0, length: 6 });
     };
@@ -38,6 +46,10 @@ pub fn line(item: &LexItem, name: &[u8], room: usize) -> Result<[u8; LONG], Refu
     line[..first.len()].copy_from_slice(first.as_bytes());
     let mut wrong = None;
     for (start, end, value) in fields {
+        let value = match (value, read) {
+            (Value::Real(x, _), Some(read)) => Value::Real(x, places_of(read.get(start..end))),
+            (value, _) => value,
+        };
         match text(&value).filter(|text| text.len() <= end - start) {
             Some(text) => {
                 let from = match value {
@@ -189,6 +201,7 @@ fn matrix_row<'a>(row: usize, [a, b, c, d]: &[f64; 4]) -> Vec<Field<'a>> {
 fn text(value: &Value) -> Option<Vec<u8>> {
     match value {
         Value::Whole(number) => Some(number.to_string().into_bytes()),
+        Value::Real(x, 0) => Some(format!("{}{}", minus(*x), nearest(*x, 0)?.whole).into_bytes()),
         Value::Real(x, places) => {
             let (whole, ten) = (nearest(*x, *places)?.whole, 10u128.pow(*places));
             let width = *places as usize;
@@ -218,6 +231,24 @@ fn minus(x: f64) -> &'static str {
     match x.is_sign_negative() {
         true => "-",
         false => "",
+    }
+}
+
+/// How many digits stand after the point of a field; 0 if it isn't a plain decimal, or not reached,
+/// since a default is read of it then.
+pub fn places_of(field: Option<&[u8]>) -> u32 {
+    let text = trimmed(field.unwrap_or_default());
+    let text = match text {
+        [b'+' | b'-', rest @ ..] => rest,
+        _ => text,
+    };
+    let (before, behind) = match text.iter().position(|byte| *byte == b'.') {
+        Some(point) => (&text[..point], &text[point + 1..]),
+        None => (text, &text[..0]),
+    };
+    match before.iter().chain(behind).all(u8::is_ascii_digit) {
+        true => behind.len() as u32,
+        false => 0,
     }
 }
 

@@ -4,11 +4,12 @@
 use crate::columns::{trimmed, KINDS};
 use crate::compare::Due;
 use crate::domain::Class;
-use crate::generate::Input;
+use crate::generate::{Input, Task};
 use crate::oracle::Refusal;
 use crate::port::{Answer, NOT_READ, OUTPUT, UNWRITTEN};
 use crate::sorts::Sorts;
-use crate::writing::{self, nearest, LONG};
+use crate::tally::add_all;
+use crate::writing::{self, nearest, places_of, LONG};
 
 /// What should come of a record.
 #[derive(Clone, Copy, PartialEq, Eq)]
@@ -22,7 +23,8 @@ pub enum Wanted {
 /// What should come of a line's record. The name that is lent are the line's bytes in its columns.
 pub fn wanted(input: &Input, due: &Due) -> Wanted {
     let name = input.line.get(12..16).unwrap_or(b"    ");
-    match due.item.as_ref().map(|item| writing::line(item, name, input.room)) {
+    let read = (input.task == Task::WriteAsRead).then_some(&*input.line);
+    match due.item.as_ref().map(|item| writing::line(item, name, read, input.room)) {
         Some(Ok(line)) => Wanted::Line(line),
         Some(Err(refusal)) => Wanted::Refused(refusal),
         None => Wanted::NotRead,
@@ -73,6 +75,9 @@ pub struct Reals {
     pub ties: u64,
     /// Written as a zero with a sign.
     pub minus_zeros: u64,
+    /// Written in the places that were read, by their number, and the defaults, which have none.
+    pub as_read: [u64; 10],
+    pub defaults: u64,
 }
 
 impl Reals {
@@ -81,12 +86,14 @@ impl Reals {
         self.rounded += other.rounded;
         self.ties += other.ties;
         self.minus_zeros += other.minus_zeros;
+        add_all(&mut self.as_read, &other.as_read);
+        self.defaults += other.defaults;
     }
 }
 
 /// The reals of the written kinds: first column, the one after the last, places.
 #[rustfmt::skip]
-fn reals(kind: &str) -> &'static [(usize, usize, u32)] {
+pub fn reals(kind: &str) -> &'static [(usize, usize, u32)] {
     match kind {
         "ATOM" | "HETATM" => &[(30, 38, 3), (38, 46, 3), (46, 54, 3), (54, 60, 2), (60, 66, 2)],
         "ANISOU" => &[
@@ -102,8 +109,15 @@ fn reals(kind: &str) -> &'static [(usize, usize, u32)] {
 
 /// What isn't the same in the record of a line, given its listing, and in that of the line that was
 /// written of it. Listings name every field, so that these are compared. A real has to be the double
-/// of the decimal that was written, and that of a field without more places the same.
-pub fn returned(line: &[u8], first: &Due, again: &Due, count: &mut Reals) -> Option<&'static str> {
+/// of the decimal that was written, and that of a field without more places the same. In the places
+/// that were read its text has to be the same too.
+pub fn returned(
+    input: &Input,
+    first: &Due,
+    line: &[u8],
+    again: &Due,
+    count: &mut Reals,
+) -> Option<&'static str> {
     if again.verdict.refusal != Refusal::default() {
         return Some("a written line is refused");
     }
@@ -117,14 +131,28 @@ pub fn returned(line: &[u8], first: &Due, again: &Due, count: &mut Reals) -> Opt
         return Some("a written line is of another kind");
     }
     let kind = KINDS[first.verdict.kind].name;
-    let (first, again) = (rows(&first.listing), rows(&again.listing));
-    if first.len() != again.len() {
+    // ANISOU's six stay as they are.
+    let as_read = input.task == Task::WriteAsRead && kind != "ANISOU";
+    let (ones, others) = (rows(&first.listing), rows(&again.listing));
+    if ones.len() != others.len() {
         return Some("a written line has other fields");
     }
-    for (one, other) in first.into_iter().zip(again) {
+    for (one, other) in ones.into_iter().zip(others) {
         let real = reals(kind).iter().find(|real| one.starts_with(&format!("f{}=", real.0)));
         let wrong = match real {
-            Some(real) => real_returned(line, kind, *real, bits(one), bits(other), count),
+            Some(real) if !as_read => {
+                real_returned(&input.line, kind, *real, bits(one), bits(other), count)
+            }
+            Some((start, end, _)) => {
+                let text = text_due(input.line.get(*start..*end), *start, first, count);
+                match () {
+                    _ if trimmed(&line[*start..*end]) != text.as_bytes() => {
+                        Some("a real comes back with another text")
+                    }
+                    _ if one != other => Some("a real comes back with other bits"),
+                    _ => None,
+                }
+            }
             None if one != other => Some("an integer, a text or a character comes back changed"),
             None => None,
         };
@@ -144,6 +172,28 @@ fn rows(listing: &[u8]) -> Vec<&str> {
 fn bits(row: &str) -> Option<f64> {
     let (_, bits) = row.split_once('=')?;
     u64::from_str_radix(bits, 16).ok().map(f64::from_bits)
+}
+
+/// The text of a real that is written in the places that were read: the field's own with a digit
+/// before the point, but without a `+`, zeros in front, and a point that ends it. With a fault it is
+/// the default's.
+fn text_due(field: Option<&[u8]>, start: usize, first: &Due, count: &mut Reals) -> String {
+    let listing = String::from_utf8_lossy(&first.listing);
+    let faults = [1, 2].map(|number| format!("fault={number},{start},"));
+    if listing.lines().any(|row| faults.iter().any(|fault| row.starts_with(fault))) {
+        count.defaults += 1;
+        return if start == 54 { "1" } else { "0" }.to_string();
+    }
+    let text = String::from_utf8_lossy(trimmed(field.unwrap_or_default()));
+    let (sign, size) = match text.strip_prefix('-') {
+        Some(size) => ("-", size),
+        None => ("", text.strip_prefix('+').unwrap_or(&text)),
+    };
+    let (before, behind) = size.split_once('.').unwrap_or((size, ""));
+    let zero = if before.bytes().all(|byte| byte == b'0') { "0" } else { "" };
+    count.as_read[behind.len()] += 1;
+    let text = format!("{sign}{zero}{}.{behind}", before.trim_start_matches('0'));
+    text.trim_end_matches('.').to_string()
 }
 
 fn real_returned(
@@ -170,7 +220,7 @@ fn real_returned(
     if again.to_bits() != due.to_bits() {
         return Some("a real isn't the double of the decimal that was written");
     }
-    if factor || places_of(line.get(start..end)) <= places as usize {
+    if factor || places_of(line.get(start..end)) <= places {
         count.kept += 1;
         if again.to_bits() != first.to_bits() {
             return Some("a real with no more places than are written has other bits");
@@ -181,22 +231,4 @@ fn real_returned(
     }
     count.minus_zeros += u64::from(written.whole == 0 && due.is_sign_negative());
     None
-}
-
-/// How many digits stand after the point of a field; 0 if it isn't a plain decimal, or not reached,
-/// since a default is read of it then.
-pub fn places_of(field: Option<&[u8]>) -> usize {
-    let text = trimmed(field.unwrap_or_default());
-    let text = match text {
-        [b'+' | b'-', rest @ ..] => rest,
-        _ => text,
-    };
-    let (before, behind) = match text.iter().position(|byte| *byte == b'.') {
-        Some(point) => (&text[..point], &text[point + 1..]),
-        None => (text, &text[..0]),
-    };
-    match before.iter().chain(behind).all(u8::is_ascii_digit) {
-        true => behind.len(),
-        false => 0,
-    }
 }

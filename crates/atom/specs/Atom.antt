@@ -6,7 +6,7 @@ use mathlib.Core.Path.{_≡_}
 use mathlib.Core.Bool.{Bool, true}
 use mathlib.Core.List.{List, [], _∷_, _++_}
 use Rattle.field.specs.Charge.{chargeAt}
-use Rattle.field.specs.Number.{unsignedAt, signedAt, realAt, factorAt, zeroReal, oneReal}
+use Rattle.field.specs.Number.{unsignedAt, signedAt, realAt, placesAt, factorAt, zeroReal, oneReal}
 use Rattle.field.specs.Table.{Entry, lineFine, tableNoted}
 use Rattle.field.specs.Table.Entry.{u, i, r, t, c, c?, a}
 use Rattle.field.specs.Text.{textAt, characterAt, optionalAt}
@@ -16,13 +16,15 @@ use Rattle.line.specs.Given.{Given, alone}
 use Rattle.line.specs.declared.columns.Columns.{Columns}
 use Rattle.row.specs.Rows.{_is_}
 use Rattle.row.specs.declared.Row.{Row}
-use Rattle.row.specs.declared.Value.the-variants.{Unsigned, Signed, Real, Words, One}
+use Rattle.row.specs.declared.Value.the-variants.{Unsigned, Signed, Real, Factor, Words, One}
 use Rattle.atom.specs.declared.record.Basics.{Basics}
 use Rattle.atom.specs.declared.record.Position.{Position}
+use Rattle.atom.specs.declared.record.PositionPlaces.{PositionPlaces}
 use Rattle.atom.specs.declared.record.Atom.{Atom}
 use Rattle.atom.specs.declared.record.Factors.{Factors}
 use Rattle.atom.specs.declared.record.Anisou.{Anisou}
 use Rattle.atom.specs.declared.read.FineBasics.{FineBasics}
+use Rattle.atom.specs.declared.read.FinePosition.{FinePosition}
 use Rattle.atom.specs.declared.read.FineAtom.{FineAtom}
 use Rattle.atom.specs.declared.read.GotAtom.{GotAtom}
 use Rattle.atom.specs.declared.read.GotAnisou.{GotAnisou}
@@ -102,6 +104,9 @@ basicsOf l = record {
 abbrev pub positionOf : List ℕ → Position
 positionOf l = record { x = realAt l (at x) zeroReal; y = realAt l (at y) zeroReal; z = realAt l (at z) zeroReal }
 
+abbrev pub positionPlacesOf : List ℕ → PositionPlaces
+positionPlacesOf l = record { x = placesAt l (at x); y = placesAt l (at y); z = placesAt l (at z) }
+
 abbrev pub atomOf : Bool → List ℕ → Atom
 atomOf hetero l = record {
   hetero = hetero;
@@ -109,6 +114,11 @@ atomOf hetero l = record {
   position = positionOf l;
   occupancy = realAt l (at occupancy) oneReal;
   bfactor = realAt l (at bfactor) zeroReal;
+  places = record {
+    position = positionPlacesOf l;
+    occupancy = placesAt l (at occupancy);
+    bfactor = placesAt l (at bfactor);
+  };
 }
 
 abbrev pub factorsOf : List ℕ → Factors
@@ -135,6 +145,12 @@ gotAnisou g = record { value = anisouOf (g .line); faults = tableNoted g anisouT
 abbrev pub SaysBasics : List ℕ → FineBasics → Type 0
 SaysBasics l got = got .fine ≡ true → (got .value ≡ basicsOf l) × (lineFine l basicsTable ≡ true)
 
+-- a position's doubles are the line's in any case
+pub record SaysPosition (l : List ℕ) (got : FinePosition) : Type 0 where
+  pub value : got .value ≡ positionOf l
+  pub fine : got .fine ≡ lineFine l positionTable
+  pub places : got .fine ≡ true → got .places ≡ positionPlacesOf l
+
 abbrev pub SaysAtom : Bool → List ℕ → FineAtom → Type 0
 SaysAtom hetero l got = got .fine ≡ true → (got .value ≡ atomOf hetero l) × (lineFine l atomTable ≡ true)
 
@@ -157,20 +173,20 @@ basicsFields b reals =
 abbrev pub atomFields : Atom → List Row
 atomFields v =
     basicsFields (v .basics)
-    (at x .start is Real (v .position .x)
-    ∷ at y .start is Real (v .position .y)
-    ∷ at z .start is Real (v .position .z)
-    ∷ at occupancy .start is Real (v .occupancy)
-    ∷ at bfactor .start is Real (v .bfactor)
+    (at x .start is Real (v .position .x) (v .places .position .x)
+    ∷ at y .start is Real (v .position .y) (v .places .position .y)
+    ∷ at z .start is Real (v .position .z) (v .places .position .z)
+    ∷ at occupancy .start is Real (v .occupancy) (v .places .occupancy)
+    ∷ at bfactor .start is Real (v .bfactor) (v .places .bfactor)
     ∷ [])
 
 abbrev pub anisouFields : Anisou → List Row
 anisouFields v =
     basicsFields (v .basics)
-    (at u11 .start is Real (v .factors .u11)
-    ∷ at u22 .start is Real (v .factors .u22)
-    ∷ at u33 .start is Real (v .factors .u33)
-    ∷ at u12 .start is Real (v .factors .u12)
-    ∷ at u13 .start is Real (v .factors .u13)
-    ∷ at u23 .start is Real (v .factors .u23)
+    (at u11 .start is Factor (v .factors .u11)
+    ∷ at u22 .start is Factor (v .factors .u22)
+    ∷ at u33 .start is Factor (v .factors .u33)
+    ∷ at u12 .start is Factor (v .factors .u12)
+    ∷ at u13 .start is Factor (v .factors .u13)
+    ∷ at u23 .start is Factor (v .factors .u23)
     ∷ [])

@@ -2,15 +2,17 @@
 // Nearly every line of a file is an atom without a fault, so an atom is read without a list of faults first. Only if a field
 // isn't fine is it read again, with the list going through.
 ghost use mathlib.Core.Path.{_≡_};
-ghost use Rattle.field.specs.Table.{lineFine, lineNoted};
+ghost use Rattle.field.specs.Table.{lineNoted};
 ghost use Rattle.line.specs.Given.{alone};
 ghost use mathlib.Core.Bool.{false};
 ghost use Rattle.atom.specs.Atom as specs;
 use crate::record::Anisou;
 use crate::record::Atom;
+use crate::record::AtomPlaces;
 use crate::record::Basics;
 use crate::record::Factors;
 use crate::record::Position;
+use crate::record::PositionPlaces;
 use field::charge::charge;
 use field::charge::fine_charge;
 use field::number_field::factor;
@@ -38,6 +40,7 @@ pub struct FineBasics {
 
 pub struct FinePosition {
     pub value: Position,
+    pub places: PositionPlaces,
     pub fine: bool,
 }
 
@@ -64,6 +67,7 @@ pub struct GotAnisou {
 
 pub struct GotPosition {
     pub value: Position,
+    pub places: PositionPlaces,
     pub faults: Faults,
 }
 
@@ -106,14 +110,23 @@ fn lex_atom_basics(line: &[u8], faults: Faults) -> GotBasics
 }
 
 fn lex_position(line: &[u8], faults: Faults) -> GotPosition
-    ensures { λ r. ⌜ r ≡ record { value = specs.positionOf (now (line .entry)); faults = lineNoted (now (line .entry)) specs.positionTable faults } ⌝ }
+    ensures { λ r. ⌜ r ≡ record { value = specs.positionOf (now (line .entry)); places = specs.positionPlacesOf (now (line .entry)); faults = lineNoted (now (line .entry)) specs.positionTable faults } ⌝ }
 {
     let x = real(line, Position::X, 0.0, faults);
     let y = real(line, Position::Y, 0.0, x.faults);
     let z = real(line, Position::Z, 0.0, y.faults);
     let value = Position::new(x.value, y.value, z.value);
+    let places = PositionPlaces {
+        x: x.places,
+        y: y.places,
+        z: z.places,
+    };
     let faults = z.faults;
-    GotPosition { value, faults }
+    GotPosition {
+        value,
+        places,
+        faults,
+    }
 }
 
 // An atom, with the list going through.
@@ -129,12 +142,19 @@ fn lex_atom_noted(line: &[u8], hetero: bool) -> GotAtom
     );
     let bfactor = real(line, Atom::BFACTOR, 0.0, occupancy.faults);
     let basics = lex_atom_basics(line, bfactor.faults);
+    let coordinates = position.places;
+    let places = AtomPlaces {
+        position: coordinates,
+        occupancy: occupancy.places,
+        bfactor: bfactor.places,
+    };
     let value = Atom::new(
         hetero,
         basics.value,
         position.value,
         occupancy.value,
         bfactor.value,
+        places,
     );
     let faults = basics.faults;
     GotAtom { value, faults }
@@ -193,14 +213,19 @@ fn quick_basics(line: &[u8]) -> FineBasics
 }
 
 fn quick_position(line: &[u8]) -> FinePosition
-    ensures { λ r. ⌜ (r .value ≡ specs.positionOf (now (line .entry))) × (r .fine ≡ lineFine (now (line .entry)) specs.positionTable) ⌝ }
+    ensures { λ r. ⌜ specs.SaysPosition (now (line .entry)) r ⌝ }
 {
     let x = fine_real(line, Position::X, 0.0);
     let y = fine_real(line, Position::Y, 0.0);
     let z = fine_real(line, Position::Z, 0.0);
     FinePosition {
         value: Position::new(x.value, y.value, z.value),
-        fine: x.fine & (y.fine & z.fine),
+        places: PositionPlaces {
+            x: x.places,
+            y: y.places,
+            z: z.places,
+        },
+        fine: x.is_fine() & (y.is_fine() & z.is_fine()),
     }
 }
 
@@ -211,6 +236,12 @@ fn quick_atom(line: &[u8], hetero: bool) -> FineAtom
     let occupancy = fine_real(line, Atom::OCCUPANCY, Atom::OCCUPANCY_DEFAULT);
     let bfactor = fine_real(line, Atom::BFACTOR, 0.0);
     let basics = quick_basics(line);
+    let coordinates = position.places;
+    let places = AtomPlaces {
+        position: coordinates,
+        occupancy: occupancy.places,
+        bfactor: bfactor.places,
+    };
     FineAtom {
         value: Atom::new(
             hetero,
@@ -218,8 +249,9 @@ fn quick_atom(line: &[u8], hetero: bool) -> FineAtom
             position.value,
             occupancy.value,
             bfactor.value,
+            places,
         ),
-        fine: position.fine & (occupancy.fine & (bfactor.fine & basics.fine)),
+        fine: position.fine & (occupancy.is_fine() & (bfactor.is_fine() & basics.fine)),
     }
 }
 

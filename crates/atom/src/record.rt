@@ -89,6 +89,20 @@ impl Position {
     }
 }
 
+// How many digits stood behind the point of each coordinate, 0 where it is its default.
+pub struct PositionPlaces {
+    pub x: u8,
+    pub y: u8,
+    pub z: u8,
+}
+
+// The same of each real of an atom.
+pub struct AtomPlaces {
+    pub position: PositionPlaces,
+    pub occupancy: u8,
+    pub bfactor: u8,
+}
+
 // An ATOM, or a HETATM if hetero.
 pub struct Atom {
     pub hetero: bool,
@@ -96,6 +110,7 @@ pub struct Atom {
     pub position: Position,
     pub occupancy: f64,
     pub bfactor: f64,
+    pub places: AtomPlaces,
 }
 
 impl Atom {
@@ -111,8 +126,9 @@ impl Atom {
         position: Position,
         occupancy: f64,
         bfactor: f64,
+        places: AtomPlaces,
     ) -> Self
-        ensures { λ r. ⌜ r ≡ record { hetero = hetero; basics = basics; position = position; occupancy = occupancy; bfactor = bfactor } ⌝ }
+        ensures { λ r. ⌜ r ≡ record { hetero = hetero; basics = basics; position = position; occupancy = occupancy; bfactor = bfactor; places = places } ⌝ }
     {
         Atom {
             hetero,
@@ -120,6 +136,7 @@ impl Atom {
             position,
             occupancy,
             bfactor,
+            places,
         }
     }
 }

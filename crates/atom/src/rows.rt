@@ -16,6 +16,8 @@ pub fn atom_rows(atom: Atom) -> Rows
 {
     let basics = atom.basics;
     let position = atom.position;
+    let places = atom.places;
+    let coordinates = places.position;
     let name = basics.name;
     let alternate = basics.alternate;
     let residue = basics.residue;
@@ -31,11 +33,17 @@ pub fn atom_rows(atom: Atom) -> Rows
         Row(Basics::CHAIN, Value::One(chain)),
         Row(Basics::NUMBER.start, Value::Signed(basics.number)),
         Row(Basics::INSERTION, Value::One(insertion)),
-        Row(Position::X.start, Value::Real(position.x)),
-        Row(Position::Y.start, Value::Real(position.y)),
-        Row(Position::Z.start, Value::Real(position.z)),
-        Row(Atom::OCCUPANCY.start, Value::Real(atom.occupancy)),
-        Row(Atom::BFACTOR.start, Value::Real(atom.bfactor)),
+        Row(Position::X.start, Value::Real(position.x, coordinates.x)),
+        Row(Position::Y.start, Value::Real(position.y, coordinates.y)),
+        Row(Position::Z.start, Value::Real(position.z, coordinates.z)),
+        Row(
+            Atom::OCCUPANCY.start,
+            Value::Real(atom.occupancy, places.occupancy),
+        ),
+        Row(
+            Atom::BFACTOR.start,
+            Value::Real(atom.bfactor, places.bfactor),
+        ),
         Row(Basics::SEGMENT.start, Value::Words(segment)),
         Row(Basics::ELEMENT.start, Value::Words(element)),
         Row(Basics::CHARGE.start, Value::Signed(basics.charge)),
@@ -64,12 +72,12 @@ pub fn anisou_rows(anisou: Anisou) -> Rows
         Row(Basics::CHAIN, Value::One(chain)),
         Row(Basics::NUMBER.start, Value::Signed(basics.number)),
         Row(Basics::INSERTION, Value::One(insertion)),
-        Row(Factors::U11.start, Value::Real(factors.u11)),
-        Row(Factors::U22.start, Value::Real(factors.u22)),
-        Row(Factors::U33.start, Value::Real(factors.u33)),
-        Row(Factors::U12.start, Value::Real(factors.u12)),
-        Row(Factors::U13.start, Value::Real(factors.u13)),
-        Row(Factors::U23.start, Value::Real(factors.u23)),
+        Row(Factors::U11.start, Value::Factor(factors.u11)),
+        Row(Factors::U22.start, Value::Factor(factors.u22)),
+        Row(Factors::U33.start, Value::Factor(factors.u33)),
+        Row(Factors::U12.start, Value::Factor(factors.u12)),
+        Row(Factors::U13.start, Value::Factor(factors.u13)),
+        Row(Factors::U23.start, Value::Factor(factors.u23)),
         Row(Basics::SEGMENT.start, Value::Words(segment)),
         Row(Basics::ELEMENT.start, Value::Words(element)),
         Row(Basics::CHARGE.start, Value::Signed(basics.charge)),

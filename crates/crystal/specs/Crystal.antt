@@ -4,7 +4,7 @@ use mathlib.Core.Bool.{Bool, true, false}
 use mathlib.Core.List.{List, [], _∷_, _++_}
 use lib.ListN.{length}
 use lib.Dec.{ltb}
-use Rattle.field.specs.Number.{realAt, unsignedFrom, zeroReal}
+use Rattle.field.specs.Number.{realAt, placesAt, unsignedFrom, zeroReal}
 use Rattle.field.specs.Table.{Entry, tableNoted, lineNoted}
 use Rattle.field.specs.Table.Entry.{r, t-within, u-rest, unwritten}
 use Rattle.field.specs.Text.{textWithin}
@@ -18,6 +18,7 @@ use Rattle.row.specs.Rows.{_is_}
 use Rattle.row.specs.declared.Row.{Row}
 use Rattle.row.specs.declared.Value.the-variants.{Unsigned, Real, Words}
 use Rattle.crystal.specs.declared.record.Cell.{Cell}
+use Rattle.crystal.specs.declared.record.CellPlaces.{CellPlaces}
 use Rattle.crystal.specs.declared.record.Crystal.{Crystal}
 use Rattle.crystal.specs.declared.read.GotCrystal.{GotCrystal}
 
@@ -67,12 +68,22 @@ cellOf l = record {
   gamma = realAt l (at gamma) zeroReal;
 }
 
+abbrev pub cellPlacesOf : List ℕ → CellPlaces
+cellPlacesOf l = record {
+  a = placesAt l (at a);
+  b = placesAt l (at b);
+  c = placesAt l (at c);
+  alpha = placesAt l (at alpha);
+  beta = placesAt l (at beta);
+  gamma = placesAt l (at gamma);
+}
+
 abbrev pub zOf : Bool → List ℕ → ℕ
 zOf true l = unsignedFrom l zFrom
 zOf false l = 1
 
 abbrev pub crystalOf : List ℕ → Crystal
-crystalOf l = record { cell = cellOf l; spacegroup = textWithin l (at spacegroup); z = zOf (hasZ l) l }
+crystalOf l = record { cell = cellOf l; places = cellPlacesOf l; spacegroup = textWithin l (at spacegroup); z = zOf (hasZ l) l }
 
 abbrev pub gotZ : List ℕ → Faults → GotUnsigned
 gotZ l fs = record { value = zOf (hasZ l) l; faults = lineNoted l (zEntry (hasZ l) ∷ []) fs }
@@ -82,12 +93,12 @@ gotCrystal g = record { value = crystalOf (g .line); faults = tableNoted g (crys
 
 abbrev pub crystalFields : Crystal → List Row
 crystalFields v =
-    at a .start is Real (v .cell .a)
-    ∷ at b .start is Real (v .cell .b)
-    ∷ at c .start is Real (v .cell .c)
-    ∷ at alpha .start is Real (v .cell .alpha)
-    ∷ at beta .start is Real (v .cell .beta)
-    ∷ at gamma .start is Real (v .cell .gamma)
+    at a .start is Real (v .cell .a) (v .places .a)
+    ∷ at b .start is Real (v .cell .b) (v .places .b)
+    ∷ at c .start is Real (v .cell .c) (v .places .c)
+    ∷ at alpha .start is Real (v .cell .alpha) (v .places .alpha)
+    ∷ at beta .start is Real (v .cell .beta) (v .places .beta)
+    ∷ at gamma .start is Real (v .cell .gamma) (v .places .gamma)
     ∷ at spacegroup .start is Words (v .spacegroup)
     ∷ zFrom is Unsigned (v .z)
     ∷ []

@@ -4,6 +4,7 @@ ghost use Rattle.field.specs.Table.{lineNoted};
 ghost use Rattle.line.specs.Given.{alone};
 ghost use Rattle.crystal.specs.Crystal as specs;
 use crate::record::Cell;
+use crate::record::CellPlaces;
 use crate::record::Crystal;
 use field::number_field::GotUnsigned;
 use field::number_field::real;
@@ -18,11 +19,12 @@ pub struct GotCrystal {
 
 pub struct GotCell {
     pub value: Cell,
+    pub places: CellPlaces,
     pub faults: Faults,
 }
 
 fn lex_cell(line: &[u8], faults: Faults) -> GotCell
-    ensures { λ r. ⌜ r ≡ record { value = specs.cellOf (now (line .entry)); faults = lineNoted (now (line .entry)) specs.cellTable faults } ⌝ }
+    ensures { λ r. ⌜ r ≡ record { value = specs.cellOf (now (line .entry)); places = specs.cellPlacesOf (now (line .entry)); faults = lineNoted (now (line .entry)) specs.cellTable faults } ⌝ }
 {
     let a = real(line, Cell::A, 0.0, faults);
     let b = real(line, Cell::B, 0.0, a.faults);
@@ -38,8 +40,20 @@ fn lex_cell(line: &[u8], faults: Faults) -> GotCell
         beta.value,
         gamma.value,
     );
+    let places = CellPlaces {
+        a: a.places,
+        b: b.places,
+        c: c.places,
+        alpha: alpha.places,
+        beta: beta.places,
+        gamma: gamma.places,
+    };
     let faults = gamma.faults;
-    GotCell { value, faults }
+    GotCell {
+        value,
+        places,
+        faults,
+    }
 }
 
 fn lex_z(line: &[u8], faults: Faults) -> GotUnsigned
@@ -60,7 +74,7 @@ pub fn lex_cryst(line: &[u8]) -> GotCrystal
     let cell = lex_cell(line, Faults::none());
     let spacegroup = text_within(line, Crystal::SPACEGROUP);
     let z = lex_z(line, cell.faults);
-    let crystal = Crystal::new(cell.value, spacegroup, z.value);
+    let crystal = Crystal::new(cell.value, cell.places, spacegroup, z.value);
     let faults = z.faults;
     GotCrystal {
         value: crystal,

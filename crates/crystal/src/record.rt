@@ -40,9 +40,20 @@ impl Cell {
     }
 }
 
+// How many digits stood behind the point of each, 0 where it is its default.
+pub struct CellPlaces {
+    pub a: u8,
+    pub b: u8,
+    pub c: u8,
+    pub alpha: u8,
+    pub beta: u8,
+    pub gamma: u8,
+}
+
 // A CRYST1.
 pub struct Crystal {
     pub cell: Cell,
+    pub places: CellPlaces,
     pub spacegroup: Text,
     pub z: u64,
 }
@@ -55,11 +66,12 @@ impl Crystal {
 
     pub const Z_DEFAULT: u64 = 1;
 
-    pub fn new(cell: Cell, spacegroup: Text, z: u64) -> Self
-        ensures { λ r. ⌜ r ≡ record { cell = cell; spacegroup = spacegroup; z = z } ⌝ }
+    pub fn new(cell: Cell, places: CellPlaces, spacegroup: Text, z: u64) -> Self
+        ensures { λ r. ⌜ r ≡ record { cell = cell; places = places; spacegroup = spacegroup; z = z } ⌝ }
     {
         Crystal {
             cell,
+            places,
             spacegroup,
             z,
         }

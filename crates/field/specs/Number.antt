@@ -2,10 +2,10 @@
 -- Defaults: 0 for U, I, 0.0 for R but 1.0 at 54..60." Columns that the line doesn't reach hold the empty part, which says no number, so a
 -- field's value needs no test of its own.
 use Prim.Native.Nat.{ℕ, _-_, min}
-use mathlib.Core.Bool.{Bool, true, false, cond}
+use mathlib.Core.Bool.{Bool, true, false, cond, not}
 use mathlib.Core.List.{List, [], _∷_}
 use lib.ListN.{length}
-use lib.Dec.{ltb}
+use lib.Dec.{ltb, eqb}
 use lib.IntN.{ℤ, pos}
 use lib.Ieee.{Float, fin}
 use Rattle.number.specs.Whole.{unsignedOf, signedOf}
@@ -31,6 +31,7 @@ use Rattle.field.specs.declared.number_field.FineReal.{FineReal}
 use Rattle.field.specs.declared.number_field.GotUnsigned.{GotUnsigned}
 use Rattle.field.specs.declared.number_field.GotSigned.{GotSigned}
 use Rattle.field.specs.declared.number_field.GotReal.{GotReal}
+use Rattle.field.specs.declared.number_field.GotFactor.{GotFactor}
 
 -- 0.0 and 1.0
 abbrev pub zeroReal : Float
@@ -57,11 +58,16 @@ isI (I n) = true
 isI NotI = false
 
 abbrev pub orR : Float → Real → Float
-orR default (R x) = x
+orR default (R x p) = x
 orR default NotR = default
 
+-- the digits behind the point, "and 0 for a default"
+abbrev pub placesIn : Real → ℕ
+placesIn (R x p) = p
+placesIn NotR = 0
+
 abbrev pub isR : Real → Bool
-isR (R x) = true
+isR (R x p) = true
 isR NotR = false
 
 -- a fault of the columns
@@ -102,9 +108,12 @@ signedAt l at = orI (signedOf (partOf l at))
 abbrev pub signedFaults : List ℕ → Columns → List Fault
 signedFaults l at = numberFaults l at ISort (isI (signedOf (partOf l at)))
 
--- R, with its default
+-- R, with its default, and its places
 unfoldable pub realAt : List ℕ → Columns → Float → Float
 realAt l at default = orR default (realOf (partOf l at))
+
+unfoldable pub placesAt : List ℕ → Columns → ℕ
+placesAt l at = placesIn (realOf (partOf l at))
 
 abbrev pub realFaults : List ℕ → Columns → List Fault
 realFaults l at = numberFaults l at RSort (isR (realOf (partOf l at)))
@@ -134,8 +143,12 @@ fineUnsigned l at = record { value = unsignedAt l at; fine = isFine (unsignedFau
 abbrev pub fineSigned : List ℕ → Columns → FineSigned
 fineSigned l at = record { value = signedAt l at; fine = isFine (signedFaults l at) }
 
+-- a real's places are 255 where it isn't fine
+abbrev pub isRead : ℕ → Bool
+isRead places = not (eqb places 255)
+
 abbrev pub fineReal : List ℕ → Columns → Float → FineReal
-fineReal l at default = record { value = realAt l at default; fine = isFine (realFaults l at) }
+fineReal l at default = record { value = realAt l at default; places = cond (isFine (realFaults l at)) (placesAt l at) 255 }
 
 -- ---- a field's value beside the faults with its own noted
 abbrev pub gotUnsigned : List ℕ → Columns → Faults → GotUnsigned
@@ -145,9 +158,9 @@ abbrev pub gotSigned : List ℕ → Columns → Faults → GotSigned
 gotSigned l at fs = record { value = signedAt l at; faults = allNoted fs (signedFaults l at) }
 
 abbrev pub gotReal : List ℕ → Columns → Float → Faults → GotReal
-gotReal l at default fs = record { value = realAt l at default; faults = allNoted fs (realFaults l at) }
+gotReal l at default fs = record { value = realAt l at default; places = placesAt l at; faults = allNoted fs (realFaults l at) }
 
-abbrev pub gotFactor : List ℕ → Columns → Faults → GotReal
+abbrev pub gotFactor : List ℕ → Columns → Faults → GotFactor
 gotFactor l at fs = record { value = factorAt l at; faults = allNoted fs (factorFaults l at) }
 
 abbrev pub gotUnsignedFrom : List ℕ → ℕ → Faults → GotUnsigned

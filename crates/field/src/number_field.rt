@@ -28,12 +28,24 @@ pub struct FineSigned {
     pub fine: bool,
 }
 
+// A real's value and its places, which are 255 where the field isn't fine: two numbers are handed back in registers, and three
+// wouldn't be.
 pub struct FineReal {
     pub value: f64,
-    pub fine: bool,
+    pub places: u8,
 }
 
-// A field's value beside the list with the field's fault, if it has one.
+impl FineReal {
+    const UNREAD: u8 = 255;
+
+    pub fn is_fine(self) -> bool
+        ensures { λ r. ⌜ r ≡ specs.isRead (self .places) ⌝ }
+    {
+        self.places != FineReal::UNREAD
+    }
+}
+
+// A field's value beside the list with the field's fault, if it has one. A real's places are 0 where it is its default.
 pub struct GotUnsigned {
     pub value: u64,
     pub faults: Faults,
@@ -45,6 +57,12 @@ pub struct GotSigned {
 }
 
 pub struct GotReal {
+    pub value: f64,
+    pub places: u8,
+    pub faults: Faults,
+}
+
+pub struct GotFactor {
     pub value: f64,
     pub faults: Faults,
 }
@@ -154,14 +172,14 @@ pub fn fine_real(line: &[u8], at: Columns, default: f64) -> FineReal
     if ends_before(line, at) {
         return FineReal {
             value: default,
-            fine: false,
+            places: FineReal::UNREAD,
         };
     }
     match read_real(at.part(line)) {
-        Real::R(value) => FineReal { value, fine: true },
+        Real::R(value, places) => FineReal { value, places },
         Real::NotR => FineReal {
             value: default,
-            fine: false,
+            places: FineReal::UNREAD,
         },
     }
 }
@@ -170,31 +188,33 @@ pub fn real(line: &[u8], at: Columns, default: f64, faults: Faults) -> GotReal
     ensures { λ r. ⌜ r ≡ specs.gotReal (now (line .entry)) at default faults ⌝ }
 {
     let got = fine_real(line, at, default);
-    if got.fine {
+    if got.is_fine() {
         return GotReal {
             value: got.value,
+            places: got.places,
             faults,
         };
     }
     GotReal {
         value: got.value,
+        places: 0,
         faults: faults.note(number_fault(line, Sort::Real, at)),
     }
 }
 
 // One of ANISOU's six, whose columns hold an integer.
-pub fn factor(line: &[u8], at: Columns, faults: Faults) -> GotReal
+pub fn factor(line: &[u8], at: Columns, faults: Faults) -> GotFactor
     ensures { λ r. ⌜ r ≡ specs.gotFactor (now (line .entry)) at faults ⌝ }
 {
     if ends_before(line, at) {
-        return GotReal {
+        return GotFactor {
             value: 0.0,
             faults: faults.note(short(at)),
         };
     }
     match read_ten_thousandths(at.part(line)) {
-        Real::R(value) => GotReal { value, faults },
-        Real::NotR => GotReal {
+        Real::R(value, _) => GotFactor { value, faults },
+        Real::NotR => GotFactor {
             value: 0.0,
             faults: faults.note(wrong(Sort::Signed, at)),
         },

@@ -1,2 +1,3 @@
--- The law of the bytes of a list's elements, which a loop that puts them cites.
+-- The law of the bytes of a list's elements, which a loop that puts them cites, and how many places rows have.
 pub mod Each
+pub mod Places

@@ -2,4 +2,5 @@
 pub mod Each
 pub mod Label
 pub mod Row
+pub mod Places
 pub mod Fault

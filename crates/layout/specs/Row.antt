@@ -14,7 +14,7 @@ use Rattle.page.specs.Numerals.{decimal, signedDecimal, hex16, escaped}
 use Rattle.layout.specs.Each.{each}
 use Rattle.row.specs.declared.Row.{Row}
 use Rattle.row.specs.declared.Value.{Value}
-use Rattle.row.specs.declared.Value.the-variants.{Unsigned, Signed, Real, Words, One, Flag, Nothing}
+use Rattle.row.specs.declared.Value.the-variants.{Unsigned, Signed, Real, Factor, Words, One, Flag, Nothing}
 
 abbrev pub presentCharacter : Character → Bool
 presentCharacter (At place) = true
@@ -25,7 +25,8 @@ presentCharacter Absent = false
 abbrev pub present : Value → Bool
 present (Unsigned n) = true
 present (Signed n) = true
-present (Real x) = true
+present (Real x places) = true
+present (Factor x) = true
 present (Words t) = true
 present (One c) = presentCharacter c
 present (Flag b) = true
@@ -38,7 +39,8 @@ fieldBytes l f = escaped (viewOf l (32 ∷ []) f)
 abbrev pub valueBytes : List ℕ → Value → List ℕ
 valueBytes l (Unsigned n) = decimal n
 valueBytes l (Signed n) = signedDecimal n
-valueBytes l (Real x) = hex16 (toBits binary64 x)
+valueBytes l (Real x places) = hex16 (toBits binary64 x)
+valueBytes l (Factor x) = hex16 (toBits binary64 x)
 valueBytes l (Words t) = fieldBytes l (field.Words t)
 valueBytes l (One c) = fieldBytes l (field.One c)
 valueBytes l (Flag b) = cond b 49 48 ∷ []

@@ -5,6 +5,7 @@ ghost use Rattle.layout.specs.Label.{headRows, numberRow, threeRow};
 ghost use Rattle.page.specs.Page.{page, put};
 
 pub mod fault;
+pub mod places;
 pub mod rows;
 
 use page::put_byte;

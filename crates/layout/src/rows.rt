@@ -21,7 +21,8 @@ fn is_present(value: Value) -> bool
     match value {
         Value::Unsigned(_) => true,
         Value::Signed(_) => true,
-        Value::Real(_) => true,
+        Value::Real(_, _) => true,
+        Value::Factor(_) => true,
         Value::Words(_) => true,
         Value::One(character) => match character {
             Character::At(_) => true,
@@ -46,7 +47,8 @@ fn put_value(out: &mut [u8], at: usize, line: &[u8], value: Value) -> usize
     match value {
         Value::Unsigned(n) => put_unsigned(out, at, n),
         Value::Signed(n) => put_signed(out, at, n),
-        Value::Real(x) => put_hex(out, at, bits_of(x)),
+        Value::Real(x, _) => put_hex(out, at, bits_of(x)),
+        Value::Factor(x) => put_hex(out, at, bits_of(x)),
         Value::Words(text) => put_field(out, at, line, Field::Words(text)),
         Value::One(character) => put_field(out, at, line, Field::One(character)),
         Value::Flag(flag) => {

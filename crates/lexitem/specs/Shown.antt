@@ -5,7 +5,7 @@ use mathlib.Core.List.{List, [], _∷_, _++_}
 use lib.ListN.{getD}
 use lib.Dec.{ltb, eqb}
 use Rattle.line.specs.Given.{Given}
-use Rattle.field.specs.Number.{unsignedAt, signedAt, realAt, factorAt, unsignedFrom}
+use Rattle.field.specs.Number.{unsignedAt, signedAt, realAt, placesAt, factorAt, unsignedFrom}
 use Rattle.field.specs.Text.{textAt, textWithin, textFrom, endTextFrom, characterAt, optionalAt}
 use Rattle.field.specs.Charge.{chargeAt}
 use Rattle.field.specs.Table.{Entry}
@@ -15,17 +15,17 @@ use Rattle.seqres.specs.Seqres.{triplesFrom, tripleRows}
 use Rattle.row.specs.Rows.{_is_}
 use Rattle.row.specs.declared.Row.{Row}
 use Rattle.row.specs.declared.Value.{Value}
-use Rattle.row.specs.declared.Value.the-variants.{Unsigned, Signed, Real, Words, One, Flag, Nothing}
+use Rattle.row.specs.declared.Value.the-variants.{Unsigned, Signed, Real, Factor, Words, One, Flag, Nothing}
 
 -- a look into the remark table shows nothing; a number that isn't written is CRYST1's Z, and 1
 abbrev pub shownBy : Given → Entry → List Row
 shownBy g (u at) = at .start is Unsigned (unsignedAt (g .line) at) ∷ []
 shownBy g (i at) = at .start is Signed (signedAt (g .line) at) ∷ []
-shownBy g (r at default) = at .start is Real (realAt (g .line) at default) ∷ []
+shownBy g (r at default) = at .start is Real (realAt (g .line) at default) (placesAt (g .line) at) ∷ []
 shownBy g (t at) = at .start is Words (textAt (g .line) at) ∷ []
 shownBy g (c at) = at .start is One (characterAt (g .line) (at .start)) ∷ []
 shownBy g (c? at) = at .start is One (optionalAt (g .line) (at .start)) ∷ []
-shownBy g (a at) = at .start is Real (factorAt (g .line) at) ∷ []
+shownBy g (a at) = at .start is Factor (factorAt (g .line) at) ∷ []
 shownBy g (u-rest start) = start is Unsigned (unsignedFrom (g .line) start) ∷ []
 shownBy g (x at) = at .start is Words (standing at) ∷ []
 shownBy g (t-within at) = at .start is Words (textWithin (g .line) at) ∷ []
@@ -59,7 +59,8 @@ ascending (row ∷ next ∷ rest) = ltb (row .0) (next .0) && ascending (next �
 abbrev pub keep : Value → Row → List Row → List Row
 keep (Unsigned n) row rest = row ∷ rest
 keep (Signed n) row rest = row ∷ rest
-keep (Real y) row rest = row ∷ rest
+keep (Real y places) row rest = row ∷ rest
+keep (Factor y) row rest = row ∷ rest
 keep (Words text) row rest = row ∷ rest
 keep (One character) row rest = row ∷ rest
 keep (Flag b) row rest = row ∷ rest

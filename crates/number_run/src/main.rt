@@ -38,9 +38,14 @@ fn put_bits(bits: u64) {
     put(&text);
 }
 
+// The bits of the double, and its places.
 fn put_real(got: Real) {
     match got {
-        Real::R(x) => put_bits(bits_of(x)),
+        Real::R(x, places) => {
+            put_bits(bits_of(x));
+            put(b"/");
+            put_number(places as u64);
+        }
         Real::NotR => put(b"-"),
     }
 }
@@ -127,7 +132,7 @@ fn put_cell(x: f64, width: usize, places: usize) {
 fn put_w(text: &[u8]) {
     put(b" W=");
     match read_real(text) {
-        Real::R(x) => {
+        Real::R(x, _) => {
             put_cell(x, 8, 3);
             put_cell(x, 6, 2);
             put_cell(x, 10, 6);

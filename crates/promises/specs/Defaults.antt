@@ -1,7 +1,7 @@
 -- What a definition alone decides is believed by every theorem about it, so each such choice has a case here.
 --     defaults    "Defaults: 0 for U, I and a faulted charge, 0.0 for R but 1.0 at 54..60, empty text, one blank for C. An empty text has place
 --                 0, length 0." A line of blanks or a cut one with its whole record, and the sort of each number field in its faults.
---     readings    which triples are read, when a residue of the database is, and what is trimmed
+--     readings    which triples are read, when a residue of the database is, what is trimmed, and how many digits stood after the point
 use Prim.Native.Nat.{ℕ}
 use mathlib.Core.Bool.{true, false}
 use mathlib.Core.List.{List, [], _∷_, _++_, map}
@@ -19,6 +19,7 @@ use Rattle.line.specs.declared.fault.Sort.the-variants.{Unsigned as U, Signed a
 use Rattle.line.specs.declared.text.Character.{Character}
 use Rattle.line.specs.declared.text.Character.the-variants.{At, Unreached, Absent}
 use Rattle.line.specs.declared.text.Text.{Text}
+use Rattle.transformation.specs.declared.record.RowPlaces.{RowPlaces}
 use Rattle.transformation.specs.declared.record.Transformation.{Transformation}
 use Rattle.promises.specs.Edges.{Claim, Case, Told, fault, wrong, on, onUnknown, filled, real}
 use Rattle.promises.specs.Edges.Claim.{is, field, faults}
@@ -55,6 +56,7 @@ atom chain = is (item.Atom (record {
   position = record { x = zero; y = zero; z = zero };
   occupancy = one;
   bfactor = zero;
+  places = record { position = record { x = 0; y = 0; z = 0 }; occupancy = 0; bfactor = 0 };
 }))
 
 abbrev atomFaults : Claim
@@ -70,12 +72,16 @@ anisou chain = is (item.Anisou (record {
 abbrev crystal : Claim
 crystal = is (item.Crystal (record {
   cell = record { a = zero; b = zero; c = zero; alpha = zero; beta = zero; gamma = zero };
+  places = record { a = 0; b = 0; c = 0; alpha = 0; beta = 0; gamma = 0 };
   spacegroup = none;
   z = 1;
 }))
 
 abbrev row : Transformation
 row = record { a = zero; b = zero; c = zero; d = zero }
+
+abbrev noPlaces : RowPlaces
+noPlaces = record { a = 0; b = 0; c = 0; d = 0 }
 
 abbrev rowFaults : List Told
 rowFaults = wrong R 10 10 ∷ wrong R 20 10 ∷ wrong R 30 10 ∷ wrong R 45 10 ∷ []
@@ -117,6 +123,7 @@ ssbond tail = is (item.SSBond (record {
   first = record { name = none; chain = At 15; number = pos 0; insertion = Absent };
   second = record { name = none; chain = At 29; number = pos 0; insertion = Absent };
   tail = tail;
+  places = 0;
 }))
 
 abbrev pub defaults : List Case
@@ -133,15 +140,15 @@ defaults =
     ∷ on (filled 55 (bytes "CRYST1"))
     (crystal ∷ faults (wrong R 6 9 ∷ wrong R 15 9 ∷ wrong R 24 9 ∷ wrong R 33 7 ∷ wrong R 40 7 ∷ wrong R 47 7 ∷ []) ∷ [])
     ∷ on (filled 55 (bytes "SCALE1"))
-    (is (item.Scale (record { row = 0; values = row })) ∷ faults rowFaults ∷ [])
+    (is (item.Scale (record { row = 0; values = row; places = noPlaces })) ∷ faults rowFaults ∷ [])
     ∷ on (filled 55 (bytes "ORIGX2"))
-    (is (item.OrigX (record { row = 1; values = row })) ∷ faults rowFaults ∷ [])
+    (is (item.OrigX (record { row = 1; values = row; places = noPlaces })) ∷ faults rowFaults ∷ [])
     ∷ on (bytes "ORIGX2 ")
-    (is (item.OrigX (record { row = 1; values = row }))
+    (is (item.OrigX (record { row = 1; values = row; places = noPlaces }))
     ∷ faults (fault 1 10 10 ∷ fault 1 20 10 ∷ fault 1 30 10 ∷ fault 1 45 10 ∷ [])
     ∷ [])
     ∷ on (filled 59 (bytes "MTRIX3"))
-    (is (item.MtriX (record { row = 2; serial = 0; values = row; given = false }))
+    (is (item.MtriX (record { row = 2; serial = 0; values = row; places = noPlaces; given = false }))
     ∷ faults (wrong U 7 3 ∷ rowFaults)
     ∷ [])
     ∷ on (filled 59 (bytes "MTRIX3") ++ bytes "1") (field item.MtriX (λ m. m .given) true ∷ [])
@@ -239,4 +246,11 @@ readings =
     ∷ on (bytes "MODEL " ++ 9 ∷ 10 ∷ 11 ∷ 53 ∷ 12 ∷ 13 ∷ 32 ∷ []) (field item.Model (λ m. m .number) 5 ∷ faults [] ∷ [])
     ∷ on (bytes "MODEL " ++ 8 ∷ 53 ∷ []) (field item.Model (λ m. m .number) 0 ∷ faults (wrong U 6 2 ∷ []) ∷ [])
     ∷ on (bytes "MODEL " ++ 53 ∷ 14 ∷ []) (field item.Model (λ m. m .number) 0 ∷ faults (wrong U 6 2 ∷ []) ∷ [])
+    -- "how many digits stood after the point, 0 to 9, and 0 for a default", "with trailing zeros included"
+    ∷ on (filled 80 (bytes "ATOM      1  N   ALA A   1       1.500     .50      5.        20.0"))
+    (field item.Atom (λ a. a .places) (record { position = record { x = 3; y = 2; z = 0 }; occupancy = 0; bfactor = 1 })
+    ∷ faults (wrong R 54 6 ∷ [])
+    ∷ [])
+    ∷ on (bytes "SCALE1    .100000000     -1.50        +5           .000")
+    (field item.Scale (λ s. s .places) (record { a = 9; b = 2; c = 0; d = 3 }) ∷ faults [] ∷ [])
     ∷ []

@@ -1,7 +1,8 @@
 -- Demand 3: of each real field that is present in an accepted record. If the line reaches the field's last column and the trimmed text is a plain
 -- decimal, no fault names the columns, and the double keeps the written sign and is so near the written number that the distance times 2^53 is at
 -- most that number's size. Otherwise the field is its default, and exactly one fault names the columns. "ANISOU's six meet it too, with p = 4,
--- where their integer has no fault, but for the sign of a written `-0`, which gives positive zero."
+-- where their integer has no fault, but for the sign of a written `-0`, which gives positive zero." And 2026-02: "how many digits stood after the
+-- point, 0 to 9, and 0 for a default .. The count is the definition's p, with trailing zeros included." ANISOU's six are integers and have none.
 use Prim.Native.Nat.{ℕ, suc, _-_, _≤_}
 use mathlib.Core.Path.{_≡_}
 use mathlib.Core.Bool.{Bool, cond, _&&_}
@@ -21,7 +22,7 @@ use Rattle.number.specs.declared.decimal.Decimal.the-variants.{Plain, NotPlain}
 use Rattle.line.specs.Columns.{partOf}
 use Rattle.line.specs.declared.columns.Columns.{Columns}
 use Rattle.line.specs.declared.fault.Fault.{Fault}
-use Rattle.field.specs.Number.{realAt, factorAt, zeroReal}
+use Rattle.field.specs.Number.{realAt, placesAt, factorAt, zeroReal}
 use Rattle.field.specs.Table.{Entry}
 use Rattle.field.specs.Table.Entry.{u, i, r, t, c, c?, a, u-rest, x, t-within, t-rest, t-end, charge, known, given, unwritten, triples}
 use Rattle.line.specs.Given.{Given}
@@ -30,9 +31,9 @@ use Rattle.row.specs.declared.Value.{Value}
 use Rattle.row.specs.declared.Value.the-variants as value
 
 -- ---- the real fields of a table
--- how a field's number is written: as a plain decimal, or as an integer in ten-thousandths
+-- how a field's number is written: as a plain decimal, with the count that the record holds of it, or as an integer in ten-thousandths
 pub data Form : Type 0 where
-  decimal : Form
+  decimal : ℕ → Form
   integer : Form
 
 pub record RealField : Type 0 where
@@ -46,7 +47,8 @@ pub record RealField : Type 0 where
 abbrev pub realBy : Given → Entry → List RealField → List RealField
 realBy g (u at) others = others
 realBy g (i at) others = others
-realBy g (r at default) others = record { columns = at; form = Form.decimal; value = realAt (g .line) at default; default = default } ∷ others
+realBy g (r at default) others =
+    record { columns = at; form = Form.decimal (placesAt (g .line) at); value = realAt (g .line) at default; default = default } ∷ others
 realBy g (t at) others = others
 realBy g (c at) others = others
 realBy g (c? at) others = others
@@ -66,17 +68,27 @@ abbrev pub realsBy : Given → List Entry → List RealField
 realsBy g [] = []
 realsBy g (e ∷ rest) = realBy g e (realsBy g rest)
 
--- the reals that rows show, each with its column
-abbrev pub realOfRow : ℕ → Value → List (ℕ × Float)
+-- the counts of fields, in their order
+abbrev pub countIn : Form → List ℕ
+countIn (Form.decimal places) = places ∷ []
+countIn Form.integer = []
+
+abbrev pub countsOf : List RealField → List ℕ
+countsOf [] = []
+countsOf (f ∷ rest) = countIn (f .form) ++ countsOf rest
+
+-- the reals that rows show, each with its column and its form
+abbrev pub realOfRow : ℕ → Value → List (ℕ × Form × Float)
 realOfRow column (value.Unsigned n) = []
 realOfRow column (value.Signed n) = []
-realOfRow column (value.Real y) = (column, y) ∷ []
+realOfRow column (value.Real y places) = (column, Form.decimal places, y) ∷ []
+realOfRow column (value.Factor y) = (column, Form.integer, y) ∷ []
 realOfRow column (value.Words text) = []
 realOfRow column (value.One character) = []
 realOfRow column (value.Flag b) = []
 realOfRow column value.Nothing = []
 
-abbrev pub realsShown : List Row → List (ℕ × Float)
+abbrev pub realsShown : List Row → List (ℕ × Form × Float)
 realsShown [] = []
 realsShown (row ∷ rest) = realOfRow (row .0) (row .1) ++ realsShown rest
 
@@ -98,7 +110,7 @@ inTenThousandths NotI = NotPlain
 
 -- what a text says, trimmed: its sign, M and p. No real field is wider than the ten bytes of a plain decimal
 abbrev pub saidBy : Form → List ℕ → Decimal
-saidBy Form.decimal text = decimalOf text
+saidBy (Form.decimal places) text = decimalOf text
 saidBy Form.integer text = inTenThousandths (signedOf text)
 
 -- the line reaches the field's last column, and the text there says M over 10 ^ p, with the sign s
@@ -114,6 +126,11 @@ abbrev pub Unwritten : List ℕ → RealField → Type 0
 Unwritten l f = (s : Bool) (m p : ℕ) → Written l f s m p → ⊥
 
 -- ---- the promise, for a field of a line with its faults
+-- a decimal's count is p
+abbrev pub Counts : Form → ℕ → Type 0
+Counts (Form.decimal places) p = places ≡ p
+Counts Form.integer p = Unit {0}
+
 pub record Kept (l : List ℕ) (fs : List Fault) (f : RealField) : Type 0 where
-  pub written : (s : Bool) (m p : ℕ) → Written l f s m p → (namedBy (f .columns) fs ≡ 0) × Near s m p (f .value)
-  pub otherwise : Unwritten l f → (namedBy (f .columns) fs ≡ 1) × (f .value ≡ f .default)
+  pub written : (s : Bool) (m p : ℕ) → Written l f s m p → (namedBy (f .columns) fs ≡ 0) × Near s m p (f .value) × Counts (f .form) p
+  pub otherwise : Unwritten l f → (namedBy (f .columns) fs ≡ 1) × (f .value ≡ f .default) × Counts (f .form) 0

@@ -123,7 +123,7 @@ abbrev pub Limits : Decimal → Type 0
 Limits (Plain minus m p) = (m < 10 ^ 10) × (p ≤ 9)
 Limits NotPlain = Unit {0}
 
--- a double, if one was read, is what the text says
+-- a double and its places, if they were read, are what the text says
 abbrev pub SaysReal : List ℕ → Real → Type 0
-SaysReal t (R x) = realOf t ≡ R x
+SaysReal t (R x p) = realOf t ≡ R x p
 SaysReal t NotR = Unit {0}

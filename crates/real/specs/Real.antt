@@ -1,4 +1,5 @@
--- What a text says as R, and as one of ANISOU's six: "I, each made a double and divided by 10000.0".
+-- What a text says as R, with "how many digits stood after the point", which is p; and as one of ANISOU's six: "I, each made a double and divided by
+-- 10000.0".
 use Prim.Native.Nat.{ℕ, _^_}
 use mathlib.Core.Bool.{cond}
 use mathlib.Core.List.{List}
@@ -18,7 +19,7 @@ use Rattle.real.specs.declared.Real.the-variants.{R, NotR}
 
 abbrev pub realFrom : Decimal → Real
 realFrom NotPlain = NotR
-realFrom (Plain minus m p) = R (doubleOf minus m p)
+realFrom (Plain minus m p) = R (doubleOf minus m p) p
 
 -- what a text says as R
 unfoldable pub realOf : List ℕ → Real
@@ -28,9 +29,10 @@ realOf t = realFrom (decimalOf t)
 unfoldable pub tenThousandth : ℤ → Float
 tenThousandth n = div binary64 (ofInt binary64 n) (ofInt binary64 (pos (10 ^ 4)))
 
+-- an integer has no digits behind a point
 abbrev pub tenThousandthsFrom : Signed → Real
 tenThousandthsFrom NotI = NotR
-tenThousandthsFrom (I n) = R (tenThousandth n)
+tenThousandthsFrom (I n) = R (tenThousandth n) 0
 
 -- what a text of up to seven columns says in ten-thousandths; one of more columns says nothing
 unfoldable pub tenThousandthsOf : List ℕ → Real

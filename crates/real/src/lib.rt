@@ -16,8 +16,9 @@ use number::decimal::read_decimal;
 use number::whole::Signed;
 use number::whole::read_signed;
 
+// A double, and how many digits stood behind the point. An integer has none there.
 pub enum Real {
-    R(f64),
+    R(f64, u8),
     NotR,
 }
 
@@ -70,7 +71,7 @@ fn double(minus: bool, digits: u64, places: usize) -> f64
     quotient
 }
 
-// The double of a plain decimal.
+// The double of a plain decimal, and its places.
 fn real_from(decimal: Decimal) -> Real
     requires { ⌜ Limits decimal ⌝ }
     ensures { λ r. ⌜ r ≡ specs.realFrom decimal ⌝ }
@@ -81,7 +82,7 @@ fn real_from(decimal: Decimal) -> Real
             minus,
             digits,
             places,
-        } => Real::R(double(minus, digits, places)),
+        } => Real::R(double(minus, digits, places), places as u8),
     }
 }
 
@@ -96,7 +97,7 @@ pub fn read_real(text: &[u8]) -> Real
     ensures { λ r. ⌜ r ≡ specs.realOf (now (text .entry)) ⌝ }
 {
     match quick_real(text) {
-        Real::R(value) => Real::R(value),
+        Real::R(value, places) => Real::R(value, places),
         Real::NotR => real_from(read_decimal(text)),
     }
 }
@@ -118,6 +119,6 @@ pub fn read_ten_thousandths(text: &[u8]) -> Real
     }
     match read_signed(text) {
         Signed::NotI => Real::NotR,
-        Signed::I(n) => Real::R(ten_thousandth(n)),
+        Signed::I(n) => Real::R(ten_thousandth(n), 0),
     }
 }

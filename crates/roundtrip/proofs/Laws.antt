@@ -1,5 +1,5 @@
--- The theorems on written lines. Read, Bits, Sign and Again are what 02 promises, Absent is the one case outside the premise, and Cases computes a
--- few; the rest leads there.
+-- The theorems on written lines. Read, Bits, Sign, Again and Places are what 02 promises, Absent is the one case outside the premise, and Cases
+-- computes a few; the rest leads there.
 pub mod Stand
 pub mod Trimmed
 pub mod Small
@@ -14,5 +14,6 @@ pub mod Bits
 pub mod Sign
 pub mod Redrawn
 pub mod Again
+pub mod Places
 pub mod Absent
 pub mod Cases

@@ -1,2 +1,3 @@
 -- What the theorems on written lines speak of.
 pub mod Returned
+pub mod Places

@@ -88,7 +88,8 @@ pub data Shown : Type 0 where
 abbrev pub valueShown : List ℕ → Value → Shown
 valueShown l (value.Unsigned n) = number n
 valueShown l (value.Signed z) = integer z
-valueShown l (value.Real x) = double x
+valueShown l (value.Real x places) = double x
+valueShown l (value.Factor x) = double x
 valueShown l (value.Words t) = bytes (viewOf l [] (field.Words t))
 valueShown l (value.One c) = bytes (viewOf l [] (field.One c))
 valueShown l (value.Flag b) = flag b

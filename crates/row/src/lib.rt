@@ -6,7 +6,9 @@ use line::text::Text;
 pub enum Value {
     Unsigned(u64),
     Signed(i64),
-    Real(f64),
+    // A real with the places that it was written in, and one that was written as an integer.
+    Real(f64, u8),
+    Factor(f64),
     Words(Text),
     One(Character),
     Flag(bool),

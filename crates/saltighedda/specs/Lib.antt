@@ -1,4 +1,5 @@
 -- The words that the contracts of the C face cite.
 pub mod Face
+pub mod Places
 pub mod Write
 pub mod Matrix

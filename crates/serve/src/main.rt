@@ -1,13 +1,13 @@
 // Answers over pipes what the four entries of `saltighedda` answer, for a host on a processor that can't call them, and what no entry says:
-// the sort of number that the columns of a fault 2 should have held, and what `write_record` makes of the record that was read. Standard
-// input comes in blocks of 15 requests of 4,096 bytes; for each block 15 replies of 4,200 bytes are written to standard output at once. The
-// program ends when the input ends or a write fails, and a block that isn't whole is not answered.
+// the sort of number that the columns of a fault 2 should have held, and what `write_record` and `write_as_read` make of the record that was
+// read. Standard input comes in blocks of 15 requests of 4,096 bytes; for each block 15 replies of 4,200 bytes are written to standard output
+// at once. The program ends when the input ends or a write fails, and a block that isn't whole is not answered.
 //
 // Both begin with words of eight bytes, the lowest first:
 //
 //     a request                                        a reply
 //      0  the line's number                             0  what saltighedda_list answered
-//      8  the options, and the task in bit 32           8  saltighedda_list_refusal
+//      8  the options, and the task in bits 32, 33      8  saltighedda_list_refusal
 //     16  the length of the line                       16  saltighedda_list_place
 //     24  the length of the remark table               24  saltighedda_list_length
 //     32  the room                                     32  the sorts of the faults that `lex_line` answered
@@ -16,11 +16,12 @@
 // A sort is 1 for unsigned, 2 for signed, 3 for real, and 0 for a fault that isn't a 2 or where there is none. There are at most sixteen
 // faults, and each has two bits of the word, the first fault the lowest; the upper half of the word is 0.
 //
-// The options are the low 32 bits of their word. If bit 32 is 0 the line is listed, and if it is 1 its record is written; the bits above have
-// no effect. To write, the line is read with the options, and unless it is refused, its record goes out into the lent output. One blank stands
-// in for a character that the line doesn't reach, and the atom's name that is lent are the line's bytes in 12..16, or four blanks where it has
-// under 16. The reply's first word is 0 if a line was written, else the record's refusal as the entries for C pack it (number * 2^48 + place *
-// 2^32 + length), or 2^64-2 if the line was refused. The four words behind it are 0.
+// The options are the low 32 bits of their word. If bit 32 is 0 the line is listed, and if it is 1 its record is written, by `write_record`
+// with no places asked if bit 33 is 0, and by `write_as_read` if it is 1; the bits above have no effect. To write, the line is read with the
+// options, and unless it is refused, its record goes out into the lent output. One blank stands in for a character that the line doesn't reach,
+// and the atom's name that is lent are the line's bytes in 12..16, or four blanks where it has under 16. The reply's first word is 0 if a line
+// was written, else the record's refusal as the entries for C pack it (number * 2^48 + place * 2^32 + length), or 2^64-2 if the line was refused.
+// The four words behind it are 0.
 //
 // The output is all 0xC5 before the calls, and as many of its bytes as there is room are lent to them. So the asker sees each byte as it
 // was left, also behind what was lent. If the line and the table don't fit into their request, or the room is over 4,096, nothing is
@@ -44,6 +45,7 @@ use saltighedda::saltighedda_list_length;
 use saltighedda::saltighedda_list_place;
 use saltighedda::saltighedda_list_refusal;
 use sheet::Written;
+use writer::write_as_read;
 use writer::write_record;
 
 // A pipe of 65,536 bytes holds the replies to so many, and to no more.
@@ -94,8 +96,10 @@ const NOT_CALLED: usize = usize::MAX;
 
 const NOT_READ: usize = usize::MAX - 1;
 
-// The bit of the options word that says the task.
+// The bits of the options word that say the task: whether to write, and whether with the places that were read.
 const TASK: usize = 4294967296;
+
+const AS_READ: usize = 8589934592;
 
 // Where an atom's name stands.
 const NAME: usize = 12;
@@ -223,21 +227,39 @@ fn packed(written: Written) -> usize {
     }
 }
 
-fn write_item(item: LexItem, line: &[u8], out: &mut [u8]) -> usize {
-    packed(write_record(item, line, b" ", name_of(line, b"    "), out))
+fn write_item(item: LexItem, line: &[u8], as_read: bool, out: &mut [u8]) -> usize {
+    let name = name_of(line, b"    ");
+    if as_read {
+        return packed(write_as_read(item, line, b" ", name, out));
+    }
+    packed(write_record(item, line, b" ", name, b"", out))
 }
 
-fn write_line(line: &[u8], number: usize, options: u32, remarks: &[u8], out: &mut [u8]) -> usize {
+fn write_line(
+    line: &[u8],
+    number: usize,
+    options: u32,
+    as_read: bool,
+    remarks: &[u8],
+    out: &mut [u8],
+) -> usize {
     let answer: Answer = lex_line(line, number, options_of(options), remarks);
     let outcome = answer.outcome;
     match outcome {
-        Outcome::Accepted(item) => write_item(item, line, out),
+        Outcome::Accepted(item) => write_item(item, line, as_read, out),
         Outcome::Refused(_) => NOT_READ,
     }
 }
 
-fn write(line: &[u8], number: usize, options: u32, remarks: &[u8], out: &mut [u8]) -> Told {
-    let written = write_line(line, number, options, remarks, out);
+fn write(
+    line: &[u8],
+    number: usize,
+    options: u32,
+    as_read: bool,
+    remarks: &[u8],
+    out: &mut [u8],
+) -> Told {
+    let written = write_line(line, number, options, as_read, remarks, out);
     Told {
         written,
         refusal: 0,
@@ -251,7 +273,7 @@ fn write(line: &[u8], number: usize, options: u32, remarks: &[u8], out: &mut [u8
 fn tell(line: &[u8], number: usize, options: usize, remarks: &[u8], out: &mut [u8]) -> Told {
     let low = (options % TASK) as u32;
     if options / TASK % 2 == 1 {
-        return write(line, number, low, remarks, out);
+        return write(line, number, low, options / AS_READ % 2 == 1, remarks, out);
     }
     ask(line, number, low, remarks, out)
 }

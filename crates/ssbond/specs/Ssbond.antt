@@ -4,7 +4,7 @@ use mathlib.Core.Bool.{Bool, true, false}
 use mathlib.Core.List.{List, [], _∷_, _++_}
 use lib.ListN.{length}
 use lib.Dec.{leb}
-use Rattle.field.specs.Number.{signedAt, realAt, zeroReal}
+use Rattle.field.specs.Number.{signedAt, realAt, placesAt, zeroReal}
 use Rattle.field.specs.Table.{Entry, tableNoted, lineNoted}
 use Rattle.field.specs.Table.Entry.{i, r, t, c, c?}
 use Rattle.field.specs.Text.{textAt, characterAt, optionalAt}
@@ -72,8 +72,17 @@ abbrev pub tailOf : Bool → List ℕ → Tail
 tailOf true l = Bond (textAt l (at (operator first))) (textAt l (at (operator second))) (realAt l (at distance) zeroReal)
 tailOf false l = NoTail
 
+abbrev pub tailPlaces : Bool → List ℕ → ℕ
+tailPlaces true l = placesAt l (at distance)
+tailPlaces false l = 0
+
 abbrev pub ssbondOf : List ℕ → SSBond
-ssbondOf l = record { first = residueOf l first; second = residueOf l second; tail = tailOf (hasTail l) l }
+ssbondOf l = record {
+  first = residueOf l first;
+  second = residueOf l second;
+  tail = tailOf (hasTail l) l;
+  places = tailPlaces (hasTail l) l;
+}
 
 -- one side, read from columns that are handed over
 abbrev pub gotResidue : List ℕ → Columns → ℕ → Columns → ℕ → Faults → GotResidue
@@ -88,7 +97,8 @@ gotResidue l nameAt chainAt numberAt insertionAt fs = record {
 }
 
 abbrev pub gotTail : List ℕ → Faults → GotTail
-gotTail l fs = record { value = tailOf (hasTail l) l; faults = lineNoted l (tailTable (hasTail l)) fs }
+gotTail l fs =
+    record { value = tailOf (hasTail l) l; places = tailPlaces (hasTail l) l; faults = lineNoted l (tailTable (hasTail l)) fs }
 
 abbrev pub gotSSBond : Given → GotSSBond
 gotSSBond g = record { value = ssbondOf (g .line); faults = tableNoted g (ssbondTable (hasTail (g .line))) noFaults }
@@ -102,9 +112,9 @@ abbrev pub tailSecond : Tail → Value
 tailSecond (Bond one other length) = Words other
 tailSecond NoTail = Nothing
 
-abbrev pub tailLength : Tail → Value
-tailLength (Bond one other length) = Real length
-tailLength NoTail = Nothing
+abbrev pub tailLength : Tail → ℕ → Value
+tailLength (Bond one other length) places = Real length places
+tailLength NoTail places = Nothing
 
 abbrev pub residueFields : Side → Residue → List Row
 residueFields s v =
@@ -120,5 +130,5 @@ ssbondFields v =
     ++ residueFields second (v .second)
     ++ at (operator first) .start is tailFirst (v .tail)
     ∷ at (operator second) .start is tailSecond (v .tail)
-    ∷ at distance .start is tailLength (v .tail)
+    ∷ at distance .start is tailLength (v .tail) (v .places)
     ∷ []

@@ -25,6 +25,7 @@ pub struct GotResidue {
 
 pub struct GotTail {
     pub value: Tail,
+    pub places: u8,
     pub faults: Faults,
 }
 
@@ -57,6 +58,7 @@ fn lex_tail(line: &[u8], faults: Faults) -> GotTail
     if line.len() < SSBond::LENGTH.end as usize {
         return GotTail {
             value: Tail::NoTail,
+            places: 0,
             faults,
         };
     }
@@ -71,7 +73,11 @@ fn lex_tail(line: &[u8], faults: Faults) -> GotTail
         length: length.value,
     };
     let faults = length.faults;
-    GotTail { value, faults }
+    GotTail {
+        value,
+        places: length.places,
+        faults,
+    }
 }
 
 pub fn lex_ssbond(line: &[u8]) -> GotSSBond
@@ -95,7 +101,7 @@ pub fn lex_ssbond(line: &[u8]) -> GotSSBond
     );
     let tail = lex_tail(line, second.faults);
     let bond = tail.value;
-    let ssbond = SSBond::new(first.value, second.value, bond);
+    let ssbond = SSBond::new(first.value, second.value, bond, tail.places);
     let faults = tail.faults;
     GotSSBond {
         value: ssbond,

@@ -35,11 +35,12 @@ pub enum Tail {
     NoTail,
 }
 
-// An SSBOND.
+// An SSBOND. The places are those of the length: how many digits stood behind its point, 0 where it is its default or not there.
 pub struct SSBond {
     pub first: Residue,
     pub second: Residue,
     pub tail: Tail,
+    pub places: u8,
 }
 
 impl SSBond {
@@ -65,13 +66,14 @@ impl SSBond {
 
     pub const LENGTH: Columns = Columns { start: 73, end: 78 };
 
-    pub fn new(first: Residue, second: Residue, tail: Tail) -> Self
-        ensures { λ r. ⌜ r ≡ record { first = first; second = second; tail = tail } ⌝ }
+    pub fn new(first: Residue, second: Residue, tail: Tail, places: u8) -> Self
+        ensures { λ r. ⌜ r ≡ record { first = first; second = second; tail = tail; places = places } ⌝ }
     {
         SSBond {
             first,
             second,
             tail,
+            places,
         }
     }
 }

@@ -34,15 +34,15 @@ fn tail_second(tail: Tail) -> Value
     }
 }
 
-fn tail_length(tail: Tail) -> Value
-    ensures { λ r. ⌜ r ≡ tailLength tail ⌝ }
+fn tail_length(tail: Tail, places: u8) -> Value
+    ensures { λ r. ⌜ r ≡ tailLength tail places ⌝ }
 {
     match tail {
         Tail::Bond {
             first: _,
             second: _,
             length,
-        } => Value::Real(length),
+        } => Value::Real(length, places),
         Tail::NoTail => Value::Nothing,
     }
 }
@@ -61,7 +61,7 @@ pub fn ssbond_rows(ssbond: SSBond) -> Rows
     let other_insertion = second.insertion;
     let operator = tail_first(tail);
     let other_operator = tail_second(tail);
-    let length = tail_length(tail);
+    let length = tail_length(tail, ssbond.places);
     let none = Row::NONE;
     let list = [
         Row(SSBond::NAME.start, Value::Words(name)),

@@ -4,7 +4,7 @@ use mathlib.Core.Bool.{Bool}
 use mathlib.Core.List.{List, [], _∷_, _++_}
 use lib.ListN.{getD}
 use lib.Dec.{eqb}
-use Rattle.field.specs.Number.{unsignedAt, realAt, zeroReal}
+use Rattle.field.specs.Number.{unsignedAt, realAt, placesAt, zeroReal}
 use Rattle.field.specs.Table.{Entry, tableNoted}
 use Rattle.field.specs.Table.Entry.{u, r}
 use Rattle.line.specs.Columns.{_⋯_}
@@ -15,6 +15,7 @@ use Rattle.row.specs.Rows.{_is_}
 use Rattle.row.specs.declared.Row.{Row}
 use Rattle.row.specs.declared.Value.the-variants.{Unsigned, Real, Flag}
 use Rattle.transformation.specs.declared.record.Transformation.{Transformation}
+use Rattle.transformation.specs.declared.record.RowPlaces.{RowPlaces}
 use Rattle.transformation.specs.declared.record.Scale.{Scale}
 use Rattle.transformation.specs.declared.record.OrigX.{OrigX}
 use Rattle.transformation.specs.declared.record.MtriX.{MtriX}
@@ -49,18 +50,27 @@ transformationOf l = record {
   d = realAt l (at d) zeroReal;
 }
 
+abbrev pub rowPlacesOf : List ℕ → RowPlaces
+rowPlacesOf l = record { a = placesAt l (at a); b = placesAt l (at b); c = placesAt l (at c); d = placesAt l (at d) }
+
 abbrev pub scaleOf : ℕ → List ℕ → Scale
-scaleOf row l = record { row = row; values = transformationOf l }
+scaleOf row l = record { row = row; values = transformationOf l; places = rowPlacesOf l }
 
 abbrev pub origxOf : ℕ → List ℕ → OrigX
-origxOf row l = record { row = row; values = transformationOf l }
+origxOf row l = record { row = row; values = transformationOf l; places = rowPlacesOf l }
 
 -- a byte past the line's end is no `1`
 abbrev pub givenOf : List ℕ → Bool
 givenOf l = eqb (getD l givenAt 0) 49
 
 abbrev pub mtrixOf : ℕ → List ℕ → MtriX
-mtrixOf row l = record { row = row; serial = unsignedAt l (at serial); values = transformationOf l; given = givenOf l }
+mtrixOf row l = record {
+  row = row;
+  serial = unsignedAt l (at serial);
+  values = transformationOf l;
+  places = rowPlacesOf l;
+  given = givenOf l;
+}
 
 abbrev pub gotScale : ℕ → Given → GotScale
 gotScale row g = record { value = scaleOf row (g .line); faults = tableNoted g transformationTable noFaults }
@@ -71,16 +81,20 @@ gotOrigX row g = record { value = origxOf row (g .line); faults = tableNoted g t
 abbrev pub gotMtriX : ℕ → Given → GotMtriX
 gotMtriX row g = record { value = mtrixOf row (g .line); faults = tableNoted g mtrixTable noFaults }
 
-abbrev pub transformationFields : Transformation → List Row
-transformationFields v =
-    at a .start is Real (v .a) ∷ at b .start is Real (v .b) ∷ at c .start is Real (v .c) ∷ at d .start is Real (v .d) ∷ []
+abbrev pub transformationFields : Transformation → RowPlaces → List Row
+transformationFields v n =
+    at a .start is Real (v .a) (n .a)
+    ∷ at b .start is Real (v .b) (n .b)
+    ∷ at c .start is Real (v .c) (n .c)
+    ∷ at d .start is Real (v .d) (n .d)
+    ∷ []
 
 abbrev pub scaleFields : Scale → List Row
-scaleFields v = transformationFields (v .values)
+scaleFields v = transformationFields (v .values) (v .places)
 
 abbrev pub origxFields : OrigX → List Row
-origxFields v = transformationFields (v .values)
+origxFields v = transformationFields (v .values) (v .places)
 
 abbrev pub mtrixFields : MtriX → List Row
 mtrixFields v =
-    at serial .start is Unsigned (v .serial) ∷ transformationFields (v .values) ++ givenAt is Flag (v .given) ∷ []
+    at serial .start is Unsigned (v .serial) ∷ transformationFields (v .values) (v .places) ++ givenAt is Flag (v .given) ∷ []

@@ -5,6 +5,7 @@ ghost use Rattle.line.specs.Given.{alone};
 ghost use Rattle.transformation.specs.Transformation as specs;
 use crate::record::MtriX;
 use crate::record::OrigX;
+use crate::record::RowPlaces;
 use crate::record::Scale;
 use crate::record::Transformation;
 use field::number_field::real;
@@ -28,26 +29,37 @@ pub struct GotMtriX {
 
 pub struct GotTransformation {
     pub value: Transformation,
+    pub places: RowPlaces,
     pub faults: Faults,
 }
 
 fn lex_transformation(line: &[u8], faults: Faults) -> GotTransformation
-    ensures { λ r. ⌜ r ≡ record { value = specs.transformationOf (now (line .entry)); faults = lineNoted (now (line .entry)) specs.transformationTable faults } ⌝ }
+    ensures { λ r. ⌜ r ≡ record { value = specs.transformationOf (now (line .entry)); places = specs.rowPlacesOf (now (line .entry)); faults = lineNoted (now (line .entry)) specs.transformationTable faults } ⌝ }
 {
     let a = real(line, Transformation::A, 0.0, faults);
     let b = real(line, Transformation::B, 0.0, a.faults);
     let c = real(line, Transformation::C, 0.0, b.faults);
     let d = real(line, Transformation::D, 0.0, c.faults);
     let value = Transformation::new(a.value, b.value, c.value, d.value);
+    let places = RowPlaces {
+        a: a.places,
+        b: b.places,
+        c: c.places,
+        d: d.places,
+    };
     let faults = d.faults;
-    GotTransformation { value, faults }
+    GotTransformation {
+        value,
+        places,
+        faults,
+    }
 }
 
 pub fn lex_scale(line: &[u8], row: usize) -> GotScale
     ensures { λ r. ⌜ r ≡ specs.gotScale row (alone (now (line .entry))) ⌝ }
 {
     let values = lex_transformation(line, Faults::none());
-    let scale = Scale::new(row, values.value);
+    let scale = Scale::new(row, values.value, values.places);
     let faults = values.faults;
     GotScale {
         value: scale,
@@ -59,7 +71,7 @@ pub fn lex_origx(line: &[u8], row: usize) -> GotOrigX
     ensures { λ r. ⌜ r ≡ specs.gotOrigX row (alone (now (line .entry))) ⌝ }
 {
     let values = lex_transformation(line, Faults::none());
-    let origx = OrigX::new(row, values.value);
+    let origx = OrigX::new(row, values.value, values.places);
     let faults = values.faults;
     GotOrigX {
         value: origx,
@@ -82,7 +94,13 @@ pub fn lex_mtrix(line: &[u8], row: usize) -> GotMtriX
 {
     let serial = unsigned(line, MtriX::SERIAL, Faults::none());
     let values = lex_transformation(line, serial.faults);
-    let mtrix = MtriX::new(row, serial.value, values.value, is_given(line));
+    let mtrix = MtriX::new(
+        row,
+        serial.value,
+        values.value,
+        values.places,
+        is_given(line),
+    );
     let faults = values.faults;
     GotMtriX {
         value: mtrix,

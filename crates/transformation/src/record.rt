@@ -26,17 +26,30 @@ impl Transformation {
     }
 }
 
+// How many digits stood behind the point of each, 0 where it is its default.
+pub struct RowPlaces {
+    pub a: u8,
+    pub b: u8,
+    pub c: u8,
+    pub d: u8,
+}
+
 // A SCALEn.
 pub struct Scale {
     pub row: usize,
     pub values: Transformation,
+    pub places: RowPlaces,
 }
 
 impl Scale {
-    pub fn new(row: usize, values: Transformation) -> Self
-        ensures { λ r. ⌜ r ≡ record { row = row; values = values } ⌝ }
+    pub fn new(row: usize, values: Transformation, places: RowPlaces) -> Self
+        ensures { λ r. ⌜ r ≡ record { row = row; values = values; places = places } ⌝ }
     {
-        Scale { row, values }
+        Scale {
+            row,
+            values,
+            places,
+        }
     }
 }
 
@@ -44,13 +57,18 @@ impl Scale {
 pub struct OrigX {
     pub row: usize,
     pub values: Transformation,
+    pub places: RowPlaces,
 }
 
 impl OrigX {
-    pub fn new(row: usize, values: Transformation) -> Self
-        ensures { λ r. ⌜ r ≡ record { row = row; values = values } ⌝ }
+    pub fn new(row: usize, values: Transformation, places: RowPlaces) -> Self
+        ensures { λ r. ⌜ r ≡ record { row = row; values = values; places = places } ⌝ }
     {
-        OrigX { row, values }
+        OrigX {
+            row,
+            values,
+            places,
+        }
     }
 }
 
@@ -59,6 +77,7 @@ pub struct MtriX {
     pub row: usize,
     pub serial: u64,
     pub values: Transformation,
+    pub places: RowPlaces,
     pub given: bool,
 }
 
@@ -67,13 +86,20 @@ impl MtriX {
 
     pub const GIVEN: usize = 59;
 
-    pub fn new(row: usize, serial: u64, values: Transformation, given: bool) -> Self
-        ensures { λ r. ⌜ r ≡ record { row = row; serial = serial; values = values; given = given } ⌝ }
+    pub fn new(
+        row: usize,
+        serial: u64,
+        values: Transformation,
+        places: RowPlaces,
+        given: bool,
+    ) -> Self
+        ensures { λ r. ⌜ r ≡ record { row = row; serial = serial; values = values; places = places; given = given } ⌝ }
     {
         MtriX {
             row,
             serial,
             values,
+            places,
             given,
         }
     }

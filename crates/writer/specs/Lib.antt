@@ -1,2 +1,2 @@
--- The words that the contract of `write_record` cites.
+-- The words that the contracts of `write_record` and `write_as_read` cite.
 pub mod Writer

@@ -1,6 +1,6 @@
 // Reads each line of its file `stdin` and writes the record again: the 80 bytes, or number, place and length of the refusal. The name that
-// is lent is what the line has in an atom's columns. Behind a `/` the line is written into 79 bytes. A line that isn't read has `unread`.
-// The file `stdout` was worked out apart from this program.
+// is lent is what the line has in an atom's columns. Behind a `/` the line is written into 79 bytes, and behind a `=` each real with as many
+// decimals as it was read with. A line that isn't read has `unread`. The file `stdout` was worked out apart from this program.
 use lexer::lex_line;
 use lexitem::answer::Outcome;
 use lexitem::item::LexItem;
@@ -12,6 +12,7 @@ use sheet::Written;
 use walker::lines::Step;
 use walker::lines::line;
 use walker::step;
+use writer::write_as_read;
 use writer::write_record;
 
 const OPTIONS: Options = Options {
@@ -52,25 +53,35 @@ fn put_written(written: Written, bytes: &[u8]) {
 fn write_again(item: LexItem, text: &[u8]) {
     let mut space = [35u8; 80];
     let name = NAME.part(text);
-    let written = write_record(item, text, b" ", name, &mut space);
+    let written = write_record(item, text, b" ", name, b"", &mut space);
     put_written(written, &space);
 }
 
 fn write_short(item: LexItem, text: &[u8]) {
     let mut space = [35u8; 79];
     let name = NAME.part(text);
-    let written = write_record(item, text, b" ", name, &mut space);
+    let written = write_record(item, text, b" ", name, b"", &mut space);
     put_written(written, &space);
 }
 
-fn try_line(text: &[u8], short: bool) {
+fn write_places(item: LexItem, text: &[u8]) {
+    let mut space = [35u8; 80];
+    let name = NAME.part(text);
+    let written = write_as_read(item, text, b" ", name, &mut space);
+    put_written(written, &space);
+}
+
+// The mark is the byte that the line stands behind, or a blank.
+fn try_line(text: &[u8], mark: u8) {
     let remarks = [1u8; 1000];
     let answer = lex_line(text, 1, OPTIONS, &remarks);
     let outcome = answer.outcome;
     match outcome {
         Outcome::Accepted(item) => {
-            if short {
+            if mark == b'/' {
                 write_short(item, text);
+            } else if mark == b'=' {
+                write_places(item, text);
             } else {
                 write_again(item, text);
             }
@@ -90,11 +101,11 @@ fn try_lines(file: &[u8]) {
         }
         let text = line(file, start, end);
         if text.len() == 0 {
-            try_line(text, false);
-        } else if text[0] == b'/' {
-            try_line(&text[1..], true);
+            try_line(text, b' ');
+        } else if text[0] == b'/' || text[0] == b'=' {
+            try_line(&text[1..], text[0]);
         } else {
-            try_line(text, false);
+            try_line(text, b' ');
         }
         at = next;
     }

@@ -2,6 +2,7 @@
 --     places-value                         by any fraction that the double equals
 --     near-places                          a double near M over 10 ^ p gives M back, in as many places or more
 --     written-back, written-same           so does the double that was read of M over 10 ^ p, and what is written reads as the same double
+--     places-own                           in as many places as it was read with, M comes back as it was
 --     places-again                         what is written, read and written again, is the same
 --     placed, places-are                   what has so many places has no more than nine, and of nine or less it is the nearest decimal
 -- Assumes nothing.
@@ -92,6 +93,11 @@ written-same s m p q few short long fit =
     let two = quotient-is m p few (le-trans short long) in
     ap (signPut s) (one ∙ round-same binary64 false n (10 ^ q) m (10 ^ p) (ten-pos q) (ten-pos p) same ∙ sym two)
 
+pub places-own : (s : Bool) (m p : ℕ) → m < 10 ^ 10 → p ≤ 9 → roundedTo p (doubleOf s m p) ≡ Rounded s m
+places-own s m p few long =
+    let none : m * 10 ^ (p - p) ≡ m = rw (sub-self p) (mul-one m) in
+    rw none at (written-back s m p p few (le-refl p) long (rw none few))
+
 -- ---- written, read and written again
 pub places-few : (q : ℕ) (x : Float) (s : Bool) (n : ℕ) → roundedTo q x ≡ Rounded s n → n < 10 ^ 10
 unfolding roundedTo
@@ -100,10 +106,7 @@ places-few q (inf t) s n e = absurd (let z : _≡_ {A = ℕ} 0 1 = cc in omega a
 places-few q (fin t m e') s n e = within-tells t s (closest (m * up e' * 10 ^ q) (down e')) n e .2
 
 pub places-again : (q : ℕ) (x : Float) (s : Bool) (n : ℕ) → q ≤ 9 → roundedTo q x ≡ Rounded s n → roundedTo q (doubleOf s n q) ≡ Rounded s n
-places-again q x s n long e =
-    let few = places-few q x s n e in
-    let none : n * 10 ^ (q - q) ≡ n = rw (sub-self q) (mul-one n) in
-    rw none at (written-back s n q q few (le-refl q) long (rw none few))
+places-again q x s n long e = places-own s n q (places-few q x s n e) long
 
 -- ---- of any number of places
 pub placed : (q : ℕ) (x : Float) (s : Bool) (n : ℕ) → placesOf q x ≡ Rounded s n → (q ≤ 9) × (roundedTo q x ≡ Rounded s n)

@@ -192,15 +192,15 @@ module _ (q : ℕ) (s : Bool) (n : ℕ) (few : n < 10 ^ 10) where
 pub real-back : (s : Bool) (m p q w : ℕ) → m < 10 ^ 10 → p ≤ q → q ≤ 9 → m * 10 ^ (q - p) < 10 ^ 10
     → length (fixed q s (m * 10 ^ (q - p))) ≤ w → w ≤ 10
     → (roundedTo q (doubleOf s m p) ≡ Rounded s (m * 10 ^ (q - p)))
-    × (realOf (right w (fixed q s (m * 10 ^ (q - p)))) ≡ R (doubleOf s m p))
+    × (realOf (right w (fixed q s (m * 10 ^ (q - p)))) ≡ R (doubleOf s m p) q)
 real-back s m p q w few short long fit h k =
     let n = m * 10 ^ (q - p) in (
       written-back s m p q few short long fit,
-      real-is (right w (fixed q s n)) (fixed-read q s n fit w h k) ∙ ap R (written-same s m p q few short long fit),
+      real-is (right w (fixed q s n)) (fixed-read q s n fit w h k) ∙ ap (λ (x : Float). R x q) (written-same s m p q few short long fit),
     )
 
 -- of any double that fits, the field is read as a double that is written as the same field
 pub real-again : (q : ℕ) (x : Float) (s : Bool) (n w : ℕ) → q ≤ 9 → roundedTo q x ≡ Rounded s n → length (fixed q s n) ≤ w → w ≤ 10
-    → (realOf (right w (fixed q s n)) ≡ R (doubleOf s n q)) × (roundedTo q (doubleOf s n q) ≡ Rounded s n)
+    → (realOf (right w (fixed q s n)) ≡ R (doubleOf s n q) q) × (roundedTo q (doubleOf s n q) ≡ Rounded s n)
 real-again q x s n w long e h k =
     (real-is (right w (fixed q s n)) (fixed-read q s n (places-few q x s n e) w h k), places-again q x s n long e)

@@ -1,29 +1,40 @@
 -- Laws of fields that are fine and of those that aren't.
 --     fine-none                               a fine field has no fault
 --     number-one, text-one, character-one     one that isn't has one, the defined one
+--     places-few, fine-read                   a real has nine places at most, so that 255 tells that it isn't fine
+--     unread-none                             where it isn't, it has none
 --     charge-fine                             a charge is fine if it is a digit and a sign
 --     charge-one, charge-two                  a charge that isn't has one fault, and both its columns are there
 --     all-fine                                a table of fine fields notes nothing
 -- Assumes nothing.
-use Prim.Native.Nat.{ℕ, _+_}
-use mathlib.Core.Path.{_≡_, refl}
+use Prim.Native.Nat.{ℕ, _+_, _≤_}
+use mathlib.Core.Path.{_≡_, refl, sym}
 use mathlib.Core.Bool.{Bool, true, false, cond, not, _&&_}
 use mathlib.Core.List.{List, [], _∷_}
-use borrow.Author.Tests.{eqb-true}
+use native.Mathlib.Omega.{arith}
+use borrow.Author.Tests.{eqb-true, ne-eqb}
 use lib.ListN.{length, getD}
 use lib.Dec.{ltb, eqb}
 use Rattle.number.specs.Whole.{digit}
+use Rattle.number.proofs.Laws.Choice.{and-left, and-right}
+use Rattle.number.proofs.Laws.Width.{decimal-limits}
+use Rattle.real.specs.Real.{realOf}
+use Rattle.real.specs.declared.Real.{Real}
+use Rattle.real.specs.declared.Real.the-variants.{R, NotR}
+use Rattle.real.proofs.Laws.Real.{real-near}
 use Rattle.line.specs.Columns.{partOf}
 use Rattle.line.specs.declared.columns.Columns.{Columns}
 use Rattle.line.specs.declared.fault.Fault.{Fault}
 use Rattle.line.specs.declared.fault.Faults.{Faults}
 use Rattle.line.specs.declared.fault.Sort.{Sort}
+use Rattle.line.specs.declared.fault.Sort.the-variants.{Real as RSort}
 use Rattle.line.specs.declared.fault.FaultKind.the-variants.{NoDigit, NoSign}
-use Rattle.field.specs.Number.{isFine, shortAt, wrongAt, numberFault, numberFaults}
+use Rattle.field.specs.Number.{isFine, isR, isRead, placesIn, placesAt, realFaults, shortAt, wrongAt, numberFault, numberFaults}
 use Rattle.field.specs.Text.{textFaults, characterFaults, unreached}
 use Rattle.field.specs.Charge.{bothBlank, isSign, charged, chargeFault, chargeFaultsOf, chargeFaults}
 use Rattle.line.specs.Given.{Given}
 use Rattle.field.specs.Table.{Entry, faultsBy, tableNoted, allFine}
+use Rattle.field.proofs.Laws.Fields.{part-short, real-none}
 
 pub fine-none : (fs : List Fault) → isFine fs ≡ true → fs ≡ []
 fine-none [] e = refl
@@ -39,6 +50,32 @@ number-one l at sort ok e = go (ltb (length l) (at .end)) ok e
     go true k e = refl
     go false true e = cc
     go false false e = refl
+
+real-few : (t : List ℕ) (r : Real) → realOf t ≡ r → placesIn r ≤ 9
+real-few t (R x p) e = let (s, m, d, near) = real-near t e in decimal-limits t d .1
+real-few t NotR e = omega arith
+
+module _ (l : List ℕ) (at : Columns) where
+  pub places-few : placesAt l at ≤ 9
+  unfolding placesAt
+  places-few = real-few (partOf l at) (realOf (partOf l at)) refl
+
+  pub fine-read : isRead (cond (isFine (realFaults l at)) (placesAt l at) 255) ≡ isFine (realFaults l at)
+  fine-read = go (isFine (realFaults l at))
+    where
+      go : (b : Bool) → isRead (cond b (placesAt l at) 255) ≡ b
+      go true = rw (ne-eqb (placesAt l at) 255 (λ e. omega (arith, places-few))) refl
+      go false = refl
+
+  pub unread-none : isFine (realFaults l at) ≡ false → placesAt l at ≡ 0
+  unfolding placesAt numberFaults
+  unread-none e = go (ltb (length l) (at .end)) (realOf (partOf l at)) refl refl e
+    where
+      go : (b : Bool) (r : Real) → ltb (length l) (at .end) ≡ b → realOf (partOf l at) ≡ r
+          → isFine (cond b (shortAt at ∷ []) (cond (isR r) [] (wrongAt RSort at ∷ []))) ≡ false → placesIn r ≡ 0
+      go true r short is e = rw (sym is, part-short l at short, real-none) refl
+      go false (R x p) long is e = cc
+      go false NotR long is e = refl
 
 pub text-one : (l : List ℕ) (at : Columns) → isFine (textFaults l at) ≡ false → textFaults l at ≡ shortAt at ∷ []
 unfolding textFaults
@@ -92,14 +129,6 @@ charge-two l at e = eqb-true (length (partOf l at)) 2 (go (eqb (length (partOf l
         → isFine (cond (a && not b) (chargeFaultsOf (getD (partOf l at) 0 0) (getD (partOf l at) 1 0) (at .start)) []) ≡ false → a ≡ true
     go true b e = refl
     go false b e = cc
-
-and-left : (a b : Bool) → a && b ≡ true → a ≡ true
-and-left true b e = refl
-and-left false b e = e
-
-and-right : (a b : Bool) → a && b ≡ true → b ≡ true
-and-right true b e = e
-and-right false b e = cc
 
 pub all-fine : (g : Given) (es : List Entry) (fs : Faults) → allFine g es ≡ true → tableNoted g es fs ≡ fs
 all-fine g [] fs e = refl

@@ -1,16 +1,20 @@
 -- Laws of the bytes of a list's elements.
 --     each-next, each-done       a loop's turn, and its end
 --     front-next, front-done     the same over the first elements of a list
+--     each-padded                rows that fill a list up have no bytes, where a row that shows nothing has none
 -- Assumes nothing.
-use Prim.Native.Nat.{ℕ, _+_, _≤_, _<_}
-use mathlib.Core.Path.{_≡_}
-use mathlib.Core.List.{List}
+use Prim.Native.Nat.{ℕ, suc, _+_, _≤_, _<_}
+use mathlib.Core.Path.{_≡_, refl, ap}
+use mathlib.Core.List.{List, [], _∷_, _++_}
 use native.Mathlib.Numerals.{add-one}
 use native.Mathlib.Omega.{arith}
 use lib.ListN.{length, take, drop, getD, length-take, drop-of-length-le}
 use lib.Seq.{drop-cons, getD-take}
 use Rattle.page.specs.Page.{Page, put}
 use Rattle.page.proofs.Laws.Page.{put-step}
+use Rattle.row.specs.Rows.{_is_, padded}
+use Rattle.row.specs.declared.Row.{Row}
+use Rattle.row.specs.declared.Value.the-variants.{Nothing}
 use Rattle.layout.specs.Each.{each}
 
 module _ {A : Type 0} (f : A → List ℕ) (xs : List A) (i : ℕ) (p e : Page) where
@@ -32,3 +36,15 @@ module _ {A : Type 0} (f : A → List ℕ) (xs : List A) (n : ℕ) (fits : n ≤
 
   pub front-done : n ≤ i → put p (each f (drop i (take n xs))) ≡ e → p ≡ e
   front-done h = each-done f (take n xs) i p e (simp length-take (omega arith))
+
+module _ (f : Row → List ℕ) (none : f (0 is Nothing) ≡ []) where
+  filled : (k : ℕ) → each f (padded k []) ≡ []
+  unfolding each
+  filled ℕ.zero = refl
+  filled (suc k) = rw none (filled k)
+
+  pub each-padded : (k : ℕ) (rows : List Row) → length rows ≤ k → each f (padded k rows) ≡ each f rows
+  unfolding each
+  each-padded k [] h = filled k
+  each-padded ℕ.zero (r ∷ t) h = absurd (omega arith)
+  each-padded (suc k) (r ∷ t) h = ap (λ (bs : List ℕ). f r ++ bs) (each-padded k t (omega arith))

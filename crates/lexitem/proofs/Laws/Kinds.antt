@@ -18,12 +18,12 @@ use types.Run.{OneOf, miss}
 use denote.Enum.Declared.{tagOf}
 use Rattle.field.specs.Table.{Entry}
 use Rattle.line.specs.Given.{Given}
-use Rattle.crystal.specs.Crystal.{hasZ, crystalTable, cellOf, zOf, crystalFields}
+use Rattle.crystal.specs.Crystal.{hasZ, crystalTable, cellOf, cellPlacesOf, zOf, crystalFields}
 use Rattle.crystal.specs.Crystal as crystal
 use Rattle.field.specs.Text.{textWithin}
 use Rattle.seqadv.specs.Seqadv.{hasTarget, seqadvTable, seqadvOf, targetOf, seqadvFields}
 use Rattle.seqres.specs.Seqres.{tripleRow}
-use Rattle.ssbond.specs.Ssbond.{hasTail, ssbondTable, ssbondOf, tailOf, ssbondFields}
+use Rattle.ssbond.specs.Ssbond.{hasTail, ssbondTable, ssbondOf, tailOf, tailPlaces, ssbondFields}
 use Rattle.kind.specs.declared.Kind.{Kind}
 use Rattle.kind.specs.declared.Kind.the-variants.{Empty, Header, Remark, Atom, Hetatm, Anisou, Cryst1, Scale, Origx, Mtrix, Model, Master, Dbref, Dbref1, Dbref2, Seqres, Seqadv, Modres, Ssbond, Endmdl, Ter, End}
 use Rattle.lexitem.specs.Describe.{boundOf, tableOf, fieldsBy, itemOf, fieldsOf, atomIn}
@@ -121,7 +121,14 @@ module _ (g : Given) where
   l = g .line
 
   crystal-shown : (b : Bool)
-      → Shows g (crystalTable b) (crystalFields (record { cell = cellOf l; spacegroup = textWithin l (crystal.at crystal.Field.spacegroup); z = zOf b l }))
+      → Shows g (crystalTable b)
+      (crystalFields
+      (record {
+        cell = cellOf l;
+        places = cellPlacesOf l;
+        spacegroup = textWithin l (crystal.at crystal.Field.spacegroup);
+        z = zOf b l;
+      }))
   crystal-shown true = (refl, refl)
   crystal-shown false = (refl, refl)
 
@@ -143,7 +150,8 @@ module _ (g : Given) where
   seqadv-shown false = (refl, refl)
 
   ssbond-shown : (b : Bool)
-      → Shows g (ssbondTable b) (ssbondFields (record { first = ssbondOf l .first; second = ssbondOf l .second; tail = tailOf b l }))
+      → Shows g (ssbondTable b)
+      (ssbondFields (record { first = ssbondOf l .first; second = ssbondOf l .second; tail = tailOf b l; places = tailPlaces b l }))
   ssbond-shown true = (refl, refl)
   ssbond-shown false = (refl, refl)
 

@@ -50,6 +50,7 @@ pub scale : listingOf 3 []
         c = ofBits binary64 0xBFE0_0000_0000_0000;
         d = ofBits binary64 0x3FD0_0000_0000_0000;
       };
+      places = record { a = 1; b = 0; c = 2; d = 9 };
     }))
     []
     ≡ lines

@@ -27,7 +27,7 @@ use Rattle.page.proofs.Laws.Escaped.{escaped-length}
 use Rattle.page.proofs.Laws.Hex.{hex16-length}
 use Rattle.row.specs.declared.Row.{Row}
 use Rattle.row.specs.declared.Value.{Value}
-use Rattle.row.specs.declared.Value.the-variants.{Unsigned, Signed, Real, Words, One, Flag, Nothing}
+use Rattle.row.specs.declared.Value.the-variants.{Unsigned, Signed, Real, Factor, Words, One, Flag, Nothing}
 use Rattle.layout.specs.Each.{each}
 use Rattle.layout.specs.Row.{present, fieldBytes, valueBytes, rowBytes, rowsBytes}
 
@@ -72,7 +72,8 @@ character-most l Absent = let e = escaped-most [] 0 (lit≤ tt) in omega arith
 abbrev pub roomOf : Value → ℕ
 roomOf (Unsigned n) = 20
 roomOf (Signed n) = 21
-roomOf (Real x) = 16
+roomOf (Real x places) = 16
+roomOf (Factor x) = 16
 roomOf (Words t) = 3 * t .length
 roomOf (One c) = 3
 roomOf (Flag b) = 1
@@ -81,7 +82,8 @@ roomOf Nothing = 0
 value-room : (l : List ℕ) (v : Value) → length (valueBytes l v) ≤ roomOf v
 value-room l (Unsigned n) = decimal-most n
 value-room l (Signed n) = signed-most n
-value-room l (Real x) = let h = hex16-length (toBits binary64 x) in omega arith
+value-room l (Real x places) = let h = hex16-length (toBits binary64 x) in omega arith
+value-room l (Factor x) = let h = hex16-length (toBits binary64 x) in omega arith
 value-room l (Words t) = escaped-most (withinOf l (t .place) (t .length)) (t .length) (within-le l (t .place) (t .length))
 value-room l (One c) = character-most l c
 value-room l (Flag b) = lit≤ tt

@@ -18,7 +18,7 @@ use Rattle.line.specs.declared.columns.Columns.{Columns}
 use Rattle.page.specs.Numerals.{decimal}
 use Rattle.row.specs.declared.Row.{Row}
 use Rattle.row.specs.declared.Value.{Value}
-use Rattle.row.specs.declared.Value.the-variants.{Unsigned, Signed, Real, Words, One, Flag, Nothing}
+use Rattle.row.specs.declared.Value.the-variants.{Unsigned, Signed, Real, Factor, Words, One, Flag, Nothing}
 use Rattle.seqres.specs.Seqres.{tripleAt, tripleText, triplesFrom, tripleRow, tripleRows}
 use Rattle.layout.specs.Each.{each}
 use Rattle.layout.specs.Row.{rowBytes, rowsBytes}
@@ -118,7 +118,8 @@ rows-held l (row ∷ rest) = go (row .1) (rows-held l rest)
         → rowsBytes l ((row .0, v) ∷ rest) ≡ rowsBytes l (keep v (row .0, v) (held rest))
     go (Unsigned n) ih = rw ih refl
     go (Signed n) ih = rw ih refl
-    go (Real y) ih = rw ih refl
+    go (Real y places) ih = rw ih refl
+    go (Factor y) ih = rw ih refl
     go (Words text) ih = rw ih refl
     go (One character) ih = rw ih refl
     go (Flag b) ih = rw ih refl

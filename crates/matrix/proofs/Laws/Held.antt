@@ -47,8 +47,8 @@ near-held s m p x h few =
       small = lt-of-lt-of-le (shl-lt 118 44 (small n m p 82 36 (h .close) room)) (lit≤ tt);
     }
 
-pub real-held : (t : List ℕ) {x : Float} → realOf t ≡ R x → Held x
-real-held t {x} e = let (s, m, p, d, near) = real-near t e in near-held s m p x near (decimal-limits t d .0)
+pub real-held : (t : List ℕ) {x : Float} {p : ℕ} → realOf t ≡ R x p → Held x
+real-held t {x} {p} e = let (s, m, d, near) = real-near t e in near-held s m p x near (decimal-limits t d .0)
 
 zero-held : Held zeroReal
 zero-held = record { isMinus = false; parts = 0; value = (refl, refl); small = lit< tt }
@@ -59,7 +59,7 @@ unfolding realAt
 field-held l at = go (realOf (partOf l at)) refl
   where
     go : (r : Real) → realOf (partOf l at) ≡ r → Held (orR zeroReal r)
-    go (R x) e = real-held (partOf l at) e
+    go (R x p) e = real-held (partOf l at) e
     go NotR e = zero-held
 
 pub position-held : (l : List ℕ) → HeldPosition (positionOf l)

@@ -1,7 +1,7 @@
 -- "P1 to P12 are one list of cases with a single theorem about it": every claim of every case is found, each by computing the answer.
 --     edges-found       P1 to P12
 --     defaults-found    a case for each default, with the sort of each number field
---     readings-found    triples, a residue of the database, trimming
+--     readings-found    triples, a residue of the database, trimming, the digits after a point
 -- One line of a proof is one case, in the list's order, so that a failure names its case. Assumes nothing.
 use mathlib.Core.Path.{refl}
 use lib.Ieee.{div, neg, ofInt, ofBits}
@@ -12,7 +12,7 @@ use Rattle.real.specs.Double.{doubleOf}
 use Rattle.real.specs.Real.{realOf, tenThousandth, tenThousandthsOf}
 use Rattle.line.specs.Columns.{partOf, reachedOf, restOf}
 use Rattle.line.specs.Faults.{noFaults, noted, listed}
-use Rattle.field.specs.Number.{numberFaults, unsignedAt, signedAt, realAt, factorAt, unsignedFrom, unsignedFromFaults}
+use Rattle.field.specs.Number.{numberFaults, unsignedAt, signedAt, realAt, placesAt, factorAt, unsignedFrom, unsignedFromFaults}
 use Rattle.field.specs.Text.{textAt, textFaults, textWithin, textFrom, endTextFrom, characterAt, optionalAt, characterFaults}
 use Rattle.field.specs.Charge.{bothBlank, charged, chargeOf, chargeFaultsOf, chargeAt, chargeFaults}
 use Rattle.field.specs.Remark.{isKnown, knownFaults}
@@ -31,7 +31,7 @@ unfolding
     white leading kept endTrimmed trimmed spanOf digit digits valueFrom begins afterPlus afterSign digitsOf unsignedOf signedDigits signedOf
     beforePoint behindPoint withoutPoint plainOf decimalOf doubleOf realOf tenThousandth tenThousandthsOf div neg ofInt ofBits
     partOf reachedOf restOf noFaults noted listed
-    numberFaults unsignedAt signedAt realAt factorAt unsignedFrom unsignedFromFaults
+    numberFaults unsignedAt signedAt realAt placesAt factorAt unsignedFrom unsignedFromFaults
     textAt textFaults textWithin textFrom endTextFrom characterAt optionalAt characterFaults
     bothBlank charged chargeOf chargeFaultsOf chargeAt chargeFaults isKnown knownFaults
     blanks hasTarget blankTriple triplesFrom kindOf faultsOf plain lexed
@@ -140,6 +140,9 @@ readings-found =
     & ((_, refl, refl) & tt)
     -- trim
     & ((_, refl, refl) & refl & tt)
+    & ((_, refl, refl) & refl & tt)
+    & ((_, refl, refl) & refl & tt)
+    -- places
     & ((_, refl, refl) & refl & tt)
     & ((_, refl, refl) & refl & tt)
     & tt

@@ -5,8 +5,9 @@
 --     demand-3-tells        two written fields whose doubles have the same bits say the same number, with the same sign; the columns needn't
 --                           be the same
 --     real-finite           every real of an accepted record is finite, also a default
+--     counts-few            and every count is at most 9
 -- Assumes nothing.
-use Prim.Native.Nat.{ℕ, _*_, _^_}
+use Prim.Native.Nat.{ℕ, _*_, _^_, _≤_}
 use mathlib.Core.Path.{_≡_, sym, ap, _∙_}
 use mathlib.Core.Logic.{⊎-elim}
 use mathlib.Core.Bool.{Bool}
@@ -17,6 +18,10 @@ use lib.Ieee.{binary64, toBits, ofBits}
 use lib.Ieee.Scale.{finite}
 use lib.Ieee.Bits.{ofBits-toBits}
 use Rattle.real.proofs.Laws.Tells.{near-tells, near-finite}
+use Rattle.number.specs.Decimal.{decimalOf}
+use Rattle.number.specs.declared.decimal.Decimal.the-variants.{Plain}
+use Rattle.number.proofs.Laws.Width.{decimal-limits}
+use Rattle.line.specs.Columns.{partOf}
 use Rattle.line.specs.Faults.{listed}
 use Rattle.lexitem.specs.declared.answer.Outcome.the-variants.{Accepted}
 use Rattle.lexitem.specs.declared.item.LexItem.{LexItem}
@@ -25,7 +30,7 @@ use Rattle.lexitem.specs.Describe.{describe, fieldsBy, faultsOf}
 use Rattle.lexer.specs.Refusals.{Input, kind, given}
 use Rattle.lexer.specs.Lexed.{lexed}
 use Rattle.lexer.proofs.Laws.Accepted.{accepted-faults}
-use Rattle.promises.specs.Reals.{RealField, realsBy, namedBy, Written, Filled, Kept}
+use Rattle.promises.specs.Reals.{Form, RealField, realsBy, namedBy, Written, Filled, Kept}
 use Rattle.promises.proofs.Laws.RealsTable.{readIn, Look, looked, due, clear-looks}
 use Rattle.promises.proofs.Laws.Kinds.{table-clear}
 use Rattle.promises.proofs.Laws.RealsField.{Told, field-told, written-or-not, field-kept}
@@ -48,7 +53,7 @@ module _ (i : Input) where
       line-look : looked (tableIn i) f ≡ due (i .line) f
       line-look = clear-looks (given i) (tableIn i) (table-clear (kind i) (describe (kind i) .part (i .line))) f of
 
-      line-told : (s : Bool) (m p : ℕ) → Written (i .line) f s m p → Told s m p (readIn (i .line) f) (f .value)
+      line-told : (s : Bool) (m p : ℕ) → Written (i .line) f s m p → Told (f .form) s m p (readIn (i .line) f) (f .value)
       line-told = field-told (given i) (tableIn i) f line-look
 
       pub demand-3 : Kept (i .line) (listed (lexed i .faults)) f
@@ -63,6 +68,17 @@ module _ (i : Input) where
           ⊎-elim
           (λ w. near-finite (line-told (w .0) (w .1) (w .2) (w .3) .near))
           (λ lacks. rw (demand-3 .otherwise lacks .1, ap (λ (look : Look). look .finite) line-look) tt)
+          (written-or-not (i .line) f)
+
+      pub counts-few : (places : ℕ) → f .form ≡ Form.decimal places → places ≤ 9
+      counts-few places e =
+          ⊎-elim
+          (λ w.
+          let k = demand-3 .written (w .0) (w .1) (w .2) (w .3) .2 in
+          let same : places ≡ w .2 = rw e at k in
+          let said : decimalOf (partOf (i .line) (f .columns)) ≡ Plain (w .0) (w .1) (w .2) = rw e at (w .3 .text) in
+          omega (arith, decimal-limits (partOf (i .line) (f .columns)) said .1))
+          (λ lacks. let none : places ≡ 0 = rw e at (demand-3 .otherwise lacks .2) in omega arith)
           (written-or-not (i .line) f)
 
 pub demand-3-tells : (i j : Input) (x y : LexItem) → lexed i .outcome ≡ Accepted x → lexed j .outcome ≡ Accepted y

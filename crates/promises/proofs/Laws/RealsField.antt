@@ -1,11 +1,11 @@
 -- A real field keeps its promise where it looks as is due: its entry gives a fault exactly where no number is written, and a written number has
 -- a double near it.
---     Told, field-told     a written number is below 10 ^ 10, and the field's double is near it and one that 64 bits hold
+--     Told, field-told     a written number is below 10 ^ 10, and the field's double is near it and one that 64 bits hold, and its count is p
 --     written-or-not       a number is written in the field's columns, or none is
 --     field-kept           the promise, over the faults of the field's table
 -- Assumes nothing.
 use Prim.Native.Nat.{ℕ, _-_, _^_, _≤_, _<_}
-use mathlib.Core.Path.{_≡_, refl, sym, ap, _∙_}
+use mathlib.Core.Path.{_≡_, refl, sym, ap, _∙_, subst⁻¹}
 use mathlib.Core.Logic.{_⊎_, inl, inr, ⊎-elim}
 use mathlib.Core.Bool.{Bool, true, false, cond}
 use mathlib.Core.List.{List, [], _∷_, _++_}
@@ -34,13 +34,13 @@ use Rattle.line.specs.declared.columns.Columns.{Columns}
 use Rattle.line.specs.declared.fault.FaultKind.the-variants.{Short, Wrong}
 use Rattle.line.specs.declared.fault.Sort.{Sort}
 use Rattle.line.specs.declared.fault.Sort.the-variants.{Signed as ISort, Real as RSort}
-use Rattle.field.specs.Number.{numberFaults, faultAt, isR, orR}
+use Rattle.field.specs.Number.{numberFaults, faultAt, isR, orR, placesIn}
 use Rattle.line.specs.Given.{Given}
 use Rattle.field.specs.Table.{Entry, tableFaults}
 use Rattle.field.proofs.Laws.Fields.{part-short, real-none, factor-none}
-use Rattle.promises.specs.Reals.{Form, RealField, namedBy, inTenThousandths, saidBy, Written, Filled, Unwritten, Kept}
+use Rattle.promises.specs.Reals.{Form, RealField, namedBy, inTenThousandths, saidBy, Written, Filled, Unwritten, Counts, Kept}
 use Rattle.promises.proofs.Laws.RealsNamed.{none-named, own-named, chosen-named}
-use Rattle.promises.proofs.Laws.RealsTable.{entryAs, readAs, readIn, narrow, Look, looked, due}
+use Rattle.promises.proofs.Laws.RealsTable.{entryAs, readAs, readIn, formAs, narrow, Look, looked, due}
 
 -- ---- a text
 part-width : (l : List ℕ) (at : Columns) → length (partOf l at) ≤ at .end - at .start
@@ -64,37 +64,48 @@ tenth-held : (z : ℤ) → T (fits binary64 (tenThousandth z))
 unfolding tenThousandth
 tenth-held z = div-fits binary64 (ofInt binary64 z) (ofInt binary64 (pos 10000))
 
--- a text is read as the double x, held by 64 bits, near the written number, which is below 10 ^ 10
-pub record Told (s : Bool) (m p : ℕ) (text : Real) (x : Float) : Type 0 where
-  pub is : text ≡ R x
+-- a text is read as the double x, held by 64 bits, near the written number, which is below 10 ^ 10, with the count p
+pub record Told (form : Form) (s : Bool) (m p : ℕ) (text : Real) (x : Float) : Type 0 where
+  pub places : ℕ
+  pub is : text ≡ R x places
+  pub counts : Counts (formAs form text) p
   pub near : Near s m p x
   pub held : T (fits binary64 x)
   pub few : m < 10 ^ 10
 
 told : (form : Form) (l : List ℕ) (at : Columns) (s : Bool) (m p : ℕ) → narrow form at ≡ true
-    → saidBy form (partOf l at) ≡ Plain s m p → (x : Float) × Told s m p (readAs form (partOf l at)) x
-told Form.decimal l at s m p w e =
+    → saidBy form (partOf l at) ≡ Plain s m p → (x : Float) × Told form s m p (readAs form (partOf l at)) x
+told (Form.decimal places) l at s m p w e =
     let text = partOf l at in (
       doubleOf s m p,
-      record { is = real-is text e; near = decimal-near text e; held = double-held s m p; few = decimal-limits text e .0 },
+      record {
+        places = p;
+        is = real-is text e;
+        counts = ap placesIn (real-is text e);
+        near = decimal-near text e;
+        held = double-held s m p;
+        few = decimal-limits text e .0;
+      },
     )
 told Form.integer l at s m p w e = go (signedOf text) refl e
   where
     text : List ℕ
     text = partOf l at
 
-    go : (z : Signed) → signedOf text ≡ z → inTenThousandths z ≡ Plain s m p → (x : Float) × Told s m p (tenThousandthsOf text) x
+    go : (z : Signed) → signedOf text ≡ z → inTenThousandths z ≡ Plain s m p → (x : Float) × Told Form.integer s m p (tenThousandthsOf text) x
     go NotI said e = absurd (let z : _≡_ {A = ℕ} 0 1 = cc in omega arith)
     go (I z) said e =
         let sign : below z ≡ s = cc in
         let size : natAbs z ≡ m = cc in
-        let places : _≡_ {A = ℕ} 4 p = cc in
+        let four : _≡_ {A = ℕ} 4 p = cc in
         let seven : length text ≤ 7 = omega (arith, part-width l at, leb-true (at .end - at .start) 7 w) in
         let (is, near) = ten-thousandths-near text said seven in (
           tenThousandth z,
           record {
+            places = 0;
             is = is;
-            near = rw (sign, size, places) at near;
+            counts = tt;
+            near = rw (sign, size, four) at near;
             held = tenth-held z;
             few = rw size at (signed-within text said 10 (omega arith));
           },
@@ -102,7 +113,7 @@ told Form.integer l at s m p w e = go (signedOf text) refl e
 
 untold : (form : Form) (text : List ℕ) → saidBy form text ≡ NotPlain → readAs form text ≡ NotR
 unfolding tenThousandthsOf
-untold Form.decimal text e = real-not text .0 e
+untold (Form.decimal places) text e = real-not text .0 e
 untold Form.integer text e = go (signedOf text) (leb (length text) 7) e
   where
     go : (z : Signed) (b : Bool) → inTenThousandths z ≡ NotPlain → cond b (tenThousandthsFrom z) NotR ≡ NotR
@@ -111,7 +122,7 @@ untold Form.integer text e = go (signedOf text) (leb (length text) 7) e
     go (I z) b e = cc
 
 none-read : (form : Form) → readAs form [] ≡ NotR
-none-read Form.decimal = real-none
+none-read (Form.decimal places) = real-none
 none-read Form.integer = factor-none
 
 -- ---- a field
@@ -130,8 +141,14 @@ number-named l at sort fine = go (ltb (length l) (at .end)) fine
 entry-named : (g : Given) (form : Form) (at : Columns) (default : Float)
     → namedBy at (tableFaults g (entryAs form at default ∷ []))
     ≡ cond (ltb (length (g .line)) (at .end)) 1 (cond (isR (readAs form (partOf (g .line) at))) 0 1)
-entry-named g Form.decimal at default = number-named (g .line) at RSort (isR (readAs Form.decimal (partOf (g .line) at)))
+entry-named g (Form.decimal places) at default =
+    number-named (g .line) at RSort (isR (readAs (Form.decimal places) (partOf (g .line) at)))
 entry-named g Form.integer at default = number-named (g .line) at ISort (isR (readAs Form.integer (partOf (g .line) at)))
+
+-- what isn't read has the count 0
+unread : (form : Form) → Counts (formAs form NotR) 0
+unread (Form.decimal places) = refl
+unread Form.integer = tt
 
 -- a number is written, or none is and none is read
 filled-or-not : (l : List ℕ) (f : RealField) → Filled l f ⊎ (Unwritten l f × (readIn l f ≡ NotR))
@@ -163,11 +180,14 @@ module _ (g : Given) (es : List Entry) (f : RealField) (look : looked es f ≡ d
   field-value : f .value ≡ orR (f .default) (readIn (g .line) f)
   field-value = ap (λ (x : Look). x .value) look
 
-  pub field-told : (s : Bool) (m p : ℕ) → Written (g .line) f s m p → Told s m p (readIn (g .line) f) (f .value)
+  pub field-told : (s : Bool) (m p : ℕ) → Written (g .line) f s m p → Told (f .form) s m p (readIn (g .line) f) (f .value)
   field-told s m p w =
       let (x, d) = told (f .form) (g .line) (f .columns) s m p (ap (λ (x : Look). x .narrow) look) (w .text) in
       let same : x ≡ f .value = sym (field-value ∙ ap (orR (f .default)) (d .is)) in
       rw same at d
+
+  field-counts : (p : ℕ) → Counts (formAs (f .form) (readIn (g .line) f)) p → Counts (f .form) p
+  field-counts p = subst⁻¹ (λ form. Counts form p) (ap (λ (x : Look). x .form) look)
 
   field-untold : Unwritten (g .line) f → readIn (g .line) f ≡ NotR
   field-untold lacks = ⊎-elim (λ w. absurd (lacks (w .0) (w .1) (w .2) (w .3))) (λ n. n .1) (filled-or-not (g .line) f)
@@ -176,10 +196,10 @@ module _ (g : Given) (es : List Entry) (f : RealField) (look : looked es f ≡ d
   field-kept = record {
     written = λ s m p w.
         let d = field-told s m p w in
-        (field-named ∙ rw (le-ltb (length (g .line)) (f .columns .end) (w .reached), d .is) refl, d .near);
+        (field-named ∙ rw (le-ltb (length (g .line)) (f .columns .end) (w .reached), d .is) refl, d .near, field-counts p (d .counts));
     otherwise = λ lacks.
         let d = field-untold lacks in
-        (field-named ∙ rw d (either (ltb (length (g .line)) (f .columns .end))), field-value ∙ rw d refl);
+        (field-named ∙ rw d (either (ltb (length (g .line)) (f .columns .end))), field-value ∙ rw d refl, field-counts 0 (rw d (unread (f .form))));
   }
     where
       either : (b : Bool) → cond {A = ℕ} b 1 1 ≡ 1

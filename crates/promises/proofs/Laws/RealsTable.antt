@@ -1,6 +1,7 @@
 -- The real entries of a table are its real fields, and no other entry there can name a real field's columns: a test that each kind's table passes.
 --     entryAs, entryOf     a real field's entry in the table
 --     readAs, readIn       what a text says as the double of a form, and the line in a field's columns
+--     formAs               the form with the count of what is read
 --     Look, looked, due    what is looked at in a real field, and what is due there
 --     clear                the test
 --     clear-looks          each real field of a table that passes looks as is due
@@ -22,7 +23,7 @@ use Rattle.number.proofs.Laws.Choice.{and-left, and-right}
 use Rattle.line.specs.Columns.{partOf}
 use Rattle.line.specs.Given.{Given}
 use Rattle.line.specs.declared.columns.Columns.{Columns}
-use Rattle.field.specs.Number.{realAt, factorAt, orR, zeroReal}
+use Rattle.field.specs.Number.{realAt, placesAt, placesIn, factorAt, orR, zeroReal}
 use Rattle.field.specs.Table.{Entry}
 use Rattle.field.specs.Table.Entry.{u, i, r, t, c, c?, a, u-rest, x, t-within, t-rest, t-end, charge, known, given, unwritten, triples}
 use Rattle.promises.specs.Reals.{Form, RealField, realBy, realsBy}
@@ -30,28 +31,33 @@ use Rattle.promises.proofs.Laws.RealsNamed.{may, chosen}
 
 -- ---- a real field
 abbrev pub entryAs : Form → Columns → Float → Entry
-entryAs Form.decimal columns default = r columns default
+entryAs (Form.decimal places) columns default = r columns default
 entryAs Form.integer columns default = a columns
 
 abbrev pub entryOf : RealField → Entry
 entryOf f = entryAs (f .form) (f .columns) (f .default)
 
 abbrev pub readAs : Form → List ℕ → Real
-readAs Form.decimal text = realOf text
+readAs (Form.decimal places) text = realOf text
 readAs Form.integer text = tenThousandthsOf text
 
 -- what the line's text says in the field's columns
 abbrev pub readIn : List ℕ → RealField → Real
 readIn l f = readAs (f .form) (partOf l (f .columns))
 
+abbrev pub formAs : Form → Real → Form
+formAs (Form.decimal places) text = Form.decimal (placesIn text)
+formAs Form.integer text = Form.integer
+
 -- an integer's columns are at most seven
 abbrev pub narrow : Form → Columns → Bool
-narrow Form.decimal columns = true
+narrow (Form.decimal places) columns = true
 narrow Form.integer columns = leb (columns .end - columns .start) 7
 
--- the entries that can name the field's columns, its value, and whether the columns are narrow and the default finite
+-- the entries that can name the field's columns, its form and value, and whether the columns are narrow and the default finite
 pub record Look : Type 0 where
   pub entries : List Entry
+  pub form : Form
   pub value : Float
   pub narrow : Bool
   pub finite : Bool
@@ -59,6 +65,7 @@ pub record Look : Type 0 where
 abbrev pub looked : List Entry → RealField → Look
 looked es f = record {
   entries = chosen (may (f .columns)) es;
+  form = f .form;
   value = f .value;
   narrow = narrow (f .form) (f .columns);
   finite = finite (f .default);
@@ -67,6 +74,7 @@ looked es f = record {
 abbrev pub due : List ℕ → RealField → Look
 due l f = record {
   entries = entryOf f ∷ [];
+  form = formAs (f .form) (readIn l f);
   value = orR (f .default) (readIn l f);
   narrow = true;
   finite = true;
@@ -132,9 +140,10 @@ module _ (test : Entry → Bool) where
 
 module _ (g : Given) (es : List Entry) where
   real-looks : (at : Columns) (default : Float) → List·Memᴰ (r at default) es → clearOf es (r at default) ≡ true
-      → (let f : RealField = record { columns = at; form = Form.decimal; value = realAt (g .line) at default; default = default } in
+      → (let f : RealField =
+      record { columns = at; form = Form.decimal (placesAt (g .line) at); value = realAt (g .line) at default; default = default } in
       looked es f ≡ due (g .line) f)
-  unfolding realAt
+  unfolding realAt placesAt
   real-looks at default m e =
       let one = and-left (eqb (length (chosen (may at) es)) 1) (may at (r at default) && finite default) e in
       let rest = and-right (eqb (length (chosen (may at) es)) 1) (may at (r at default) && finite default) e in

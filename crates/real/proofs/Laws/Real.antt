@@ -1,6 +1,6 @@
 -- What the doubles of a text are: near the written number, so finite, and they tell it.
 --     real-is, real-not                    a plain decimal has its double, and what is no plain decimal has none
---     decimal-near, real-near              the double is near the written number
+--     decimal-near, real-near              the double is near the written number, and its places are the number's
 --     real-finite                          it is finite and no NaN
 --     reals-tell                           two texts with the same double say the same number, with the same sign
 --     says-limits, says-real               what was read as the text says it is within the limits, and its double is the text's
@@ -35,7 +35,7 @@ use Rattle.real.proofs.Laws.Tells.{near-tells, near-finite, near-number
 use Rattle.number.proofs.Laws.Width.{signed-within, decimal-limits}
 
 -- ---- plain decimals
-pub real-is : (t : List ℕ) {s : Bool} {m p : ℕ} → decimalOf t ≡ Plain s m p → realOf t ≡ R (doubleOf s m p)
+pub real-is : (t : List ℕ) {s : Bool} {m p : ℕ} → decimalOf t ≡ Plain s m p → realOf t ≡ R (doubleOf s m p) p
 unfolding realOf
 real-is t e = rw e refl
 
@@ -50,26 +50,24 @@ real-not t = (λ e. rw e refl, go (decimalOf t))
 pub decimal-near : (t : List ℕ) {s : Bool} {m p : ℕ} → decimalOf t ≡ Plain s m p → Near s m p (doubleOf s m p)
 decimal-near t {s} {m} {p} e = let l = decimal-limits t e in double-near s m p (l .0) (l .1)
 
-pub real-near : (t : List ℕ) {x : Float} → realOf t ≡ R x
-    → (s : Bool) × (m : ℕ) × (p : ℕ) × (decimalOf t ≡ Plain s m p) × Near s m p x
+pub real-near : (t : List ℕ) {x : Float} {p : ℕ} → realOf t ≡ R x p → (s : Bool) × (m : ℕ) × (decimalOf t ≡ Plain s m p) × Near s m p x
 unfolding realOf
-real-near t {x} e = go (decimalOf t) refl e
+real-near t {x} {p} e = go (decimalOf t) refl e
   where
-    go : (d : Decimal) → decimalOf t ≡ d → realFrom d ≡ R x
-        → (s : Bool) × (m : ℕ) × (p : ℕ) × (decimalOf t ≡ Plain s m p) × Near s m p x
+    go : (d : Decimal) → decimalOf t ≡ d → realFrom d ≡ R x p → (s : Bool) × (m : ℕ) × (decimalOf t ≡ Plain s m p) × Near s m p x
     go NotPlain d e = absurd (let z : _≡_ {A = ℕ} 0 1 = cc in omega arith)
-    go (Plain s m p) d e = let same : doubleOf s m p ≡ x = cc in (s, m, p, d, rw same at (decimal-near t d))
+    go (Plain s m q) d e =
+        let same : doubleOf s m q ≡ x = cc in
+        let places : q ≡ p = cc in
+        (s, m, rw places at d, rw (same, places) at (decimal-near t d))
 
-pub real-finite : (t : List ℕ) {x : Float} → realOf t ≡ R x → T (finite x) × T (not (isNan x))
-real-finite t e = let (s, m, p, d, near) = real-near t e in (near-finite near, near-number near)
+pub real-finite : (t : List ℕ) {x : Float} {p : ℕ} → realOf t ≡ R x p → T (finite x) × T (not (isNan x))
+real-finite t e = let (s, m, d, near) = real-near t e in (near-finite near, near-number near)
 
 pub reals-tell : (t u : List ℕ) {s r : Bool} {m n p q : ℕ} → decimalOf t ≡ Plain s m p → decimalOf u ≡ Plain r n q
-    → realOf t ≡ realOf u → (s ≡ r) × (m * 10 ^ q ≡ n * 10 ^ p)
+    → doubleOf s m p ≡ doubleOf r n q → (s ≡ r) × (m * 10 ^ q ≡ n * 10 ^ p)
 reals-tell t u {s} {r} {m} {n} {p} {q} d e same =
-    let x = real-is t d in
-    let y = real-is u e in
-    let one : doubleOf r n q ≡ doubleOf s m p = cc in
-    let other = rw one at (decimal-near u e) in
+    let other = rw (sym same) at (decimal-near u e) in
     near-tells s r m n p q (doubleOf s m p) (decimal-near t d) other (decimal-limits t d .0) (decimal-limits u e .0)
 
 -- ---- what was read, if anything was
@@ -87,7 +85,7 @@ said-decimal t NotPlain e = tt
 
 -- ---- ten-thousandths
 pub ten-thousandths-near : (t : List ℕ) {z : ℤ} → signedOf t ≡ I z → length t ≤ 7
-    → (tenThousandthsOf t ≡ R (tenThousandth z)) × Near (below z) (natAbs z) 4 (tenThousandth z)
+    → (tenThousandthsOf t ≡ R (tenThousandth z) 0) × Near (below z) (natAbs z) 4 (tenThousandth z)
 unfolding tenThousandthsOf
 ten-thousandths-near t {z} e w = (rw (le-leb (length t) 7 w, e) refl, integer-near z (signed-within t e 10 (omega arith)))
 

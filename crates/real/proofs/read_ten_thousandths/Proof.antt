@@ -3,6 +3,7 @@
 use mathlib.Core.Path.{refl, sym, ap, _∙_}
 use native.Mathlib.Omega.{arith}
 use borrow.Author.Tests.{le-leb, lt-leb}
+use lib.Ieee.{Float}
 use Rattle.number.proofs.Laws.Signed.{held-is}
 use Rattle.number.proofs.Laws.Width.{signed-within}
 use Rattle.real.specs.Real.{tenThousandthsOf, tenThousandthsFrom}
@@ -38,7 +39,7 @@ returns-2 c =
 returns-3 : tie.Need-returns-3
 unfolding tenThousandthsOf
 returns-3 c =
-    ap R (c .ten-thousandth .ensures)
+    ap (λ (x : Float). R x 0) (c .ten-thousandth .ensures)
     ∙ rw (held-is (c .before .known-told .given .0 .1), le-leb _ 7 (c .before .before .before .before .before .if1 .left))
     (ap tenThousandthsFrom (sym (c .before .before .n .given .1) ∙ c .before .before .before .before .read-signed .ensures))
 

@@ -1,4 +1,4 @@
--- "Under the same premise, writing what was read from a written line gives the same 80 bytes."
+-- "Under the same premise, writing what was read from a written line gives the same 80 bytes": with the same places asked.
 --     written-again     what is written of a line's record fits, and is the line
 -- Assumes nothing.
 use mathlib.Core.Path.{_≡_, refl, ap}
@@ -38,15 +38,15 @@ use Rattle.roundtrip.proofs.Laws.Redrawn.{cellsAgain, cells-again}
 abbrev redrawn : Sheet → Sheet
 redrawn s = record { name = s .name; cells = cellsAgain (s .cells) }
 
-abbrev Again : Kind → Given → List ℕ → List ℕ → Sheet → Type 0
-Again k g standIn name s = itemSheet (itemOf k g) (g .line) standIn name ≡ redrawn s
+abbrev Again : Kind → Given → List ℕ → List ℕ → List ℕ → Sheet → Type 0
+Again k g standIn name asked s = itemSheet (itemOf k g) (g .line) standIn name asked ≡ redrawn s
 
-module _ (g : Given) (standIn : List ℕ) where
+module _ (g : Given) (standIn asked : List ℕ) where
   -- ---- ATOM, HETATM, ANISOU
   module _ (v : Label) (clean : CleanLabel v) where
-    atom-again : (position : Position) (occupancy bfactor : Float) → AllHeld (g .line) (atomSheet false v position occupancy bfactor [] .cells)
-        → Again kinds.Atom g standIn (v .name) (atomSheet false v position occupancy bfactor [])
-        × Again kinds.Hetatm g standIn (v .name) (atomSheet true v position occupancy bfactor [])
+    atom-again : (position : Position) (occupancy bfactor : Float) → AllHeld (g .line) (atomSheet false v position occupancy bfactor asked .cells)
+        → Again kinds.Atom g standIn (v .name) asked (atomSheet false v position occupancy bfactor asked)
+        × Again kinds.Hetatm g standIn (v .name) asked (atomSheet true v position occupancy bfactor asked)
     atom-again position occupancy bfactor
         (serial, (name, (alternate, (residue, (chain, (number, (insertion, (x, (y, (z, (o, (b, (segment, (element, (charge, more))))))))))))))) =
         let e = label-back {v = v} serial name alternate residue chain number insertion segment element charge clean in
@@ -72,7 +72,7 @@ module _ (g : Given) (standIn : List ℕ) where
           e .charge,
         ) (refl, refl)
 
-    anisou-again : (u : Factors) → AllHeld (g .line) (anisouSheet v u .cells) → Again kinds.Anisou g standIn (v .name) (anisouSheet v u)
+    anisou-again : (u : Factors) → AllHeld (g .line) (anisouSheet v u .cells) → Again kinds.Anisou g standIn (v .name) asked (anisouSheet v u)
     anisou-again u
         (serial, (name, (alternate, (residue, (chain, (number, (insertion, (u11, (u22, (u33, (u12, (u13, (u23, (segment, (element, (charge, more)))))))))))))))) =
         let e = label-back {v = v} serial name alternate residue chain number insertion segment element charge clean in
@@ -104,8 +104,8 @@ module _ (g : Given) (standIn : List ℕ) where
   module _ (name : List ℕ) where
     -- ---- CRYST1
     cryst1-again : (cell : CrystalCell) (group : List ℕ) (z : ℕ) → Clean group → length (g .line) ≡ 80
-        → Stand (g .line) (cellSheet cell group z [] .cells) → AllHeld (g .line) (cellSheet cell group z [] .cells)
-        → Again kinds.Cryst1 g standIn name (cellSheet cell group z [])
+        → Stand (g .line) (cellSheet cell group z asked .cells) → AllHeld (g .line) (cellSheet cell group z asked .cells)
+        → Again kinds.Cryst1 g standIn name asked (cellSheet cell group z asked)
     unfolding cellsFrom blanks
     cryst1-again cell group z clean wide (s0, (s1, (s2, (s3, (s4, (s5, (s6, (last, more))))))))
         (a, (b, (c, (alpha, (beta, (gamma, (space, (number, none)))))))) =
@@ -121,52 +121,51 @@ module _ (g : Given) (standIn : List ℕ) where
 
     -- ---- SCALE, ORIGX, MTRIX
     module _ (row : ℕ) (v : Transformation) where
-      scale-again : AllHeld (g .line) (scaleSheet row v [] .cells) → Again (kinds.Scale row) g standIn name (scaleSheet row v [])
+      scale-again : AllHeld (g .line) (scaleSheet row v asked .cells) → Again (kinds.Scale row) g standIn name asked (scaleSheet row v asked)
       scale-again (n, (a, (b, (c, (d, more))))) = let e = row-values {v = v} a b c d in rw (e .0, e .1, e .2, e .3) refl
 
-      origx-again : AllHeld (g .line) (origxSheet row v [] .cells) → Again (kinds.Origx row) g standIn name (origxSheet row v [])
+      origx-again : AllHeld (g .line) (origxSheet row v asked .cells) → Again (kinds.Origx row) g standIn name asked (origxSheet row v asked)
       origx-again (n, (a, (b, (c, (d, more))))) = let e = row-values {v = v} a b c d in rw (e .0, e .1, e .2, e .3) refl
 
-      mtrix-again : (serial : ℕ) (isGiven : Bool) → AllHeld (g .line) (mtrixSheet row serial v isGiven [] .cells)
-          → Again (kinds.Mtrix row) g standIn name (mtrixSheet row serial v isGiven [])
+      mtrix-again : (serial : ℕ) (isGiven : Bool) → AllHeld (g .line) (mtrixSheet row serial v isGiven asked .cells)
+          → Again (kinds.Mtrix row) g standIn name asked (mtrixSheet row serial v isGiven asked)
       mtrix-again serial isGiven (n, (s, (a, (b, (c, (d, (f, more))))))) =
           let e = row-values {v = v} a b c d in
           rw (unsigned-in s (omega arith) .0, e .0, e .1, e .2, e .3, given-in f refl) refl
 
     -- ---- MODEL
-    model-again : (number : ℕ) → Lined (g .line) (modelSheet number) → Again kinds.Model g standIn name (modelSheet number)
+    model-again : (number : ℕ) → Lined (g .line) (modelSheet number) → Again kinds.Model g standIn name asked (modelSheet number)
     unfolding cellsFrom
     model-again number h = rw (rest-in (g .line) 6 4 number 4 66 (h .behind) (h .fit .0) (omega arith) .0) refl
 
 -- ---- all of them
-again : {k : Kind} {asked : List ℕ} {s : Sheet} → Writable k asked s → asked ≡ [] → (g : Given) → Lined (g .line) s
-    → (standIn name : List ℕ) → Lent name (s .cells) → Again k g standIn name s
-again (atom v position occupancy bfactor asked clean) none g h standIn name lent =
-    rw (none, lent .1 .0) (atom-again g standIn v clean position occupancy bfactor (rw none at (lined-held h)) .0)
-again (hetatm v position occupancy bfactor asked clean) none g h standIn name lent =
-    rw (none, lent .1 .0) (atom-again g standIn v clean position occupancy bfactor (rw none at (lined-held h)) .1)
-again (anisou v factors clean) none g h standIn name lent = rw (lent .1 .0) (anisou-again g standIn v clean factors (lined-held h))
-again (cryst1 cell group z asked clean) none g h standIn name lent =
-    rw none (cryst1-again g standIn name cell group z clean (h .width) (rw none at (lined-stand h)) (rw none at (lined-held h)))
-again (scale row v asked) none g h standIn name lent = rw none (scale-again g standIn name row v (rw none at (lined-held h)))
-again (origx row v asked) none g h standIn name lent = rw none (origx-again g standIn name row v (rw none at (lined-held h)))
-again (mtrix row serial v given asked) none g h standIn name lent =
-    rw none (mtrix-again g standIn name row v serial given (rw none at (lined-held h)))
-again (model number) none g h standIn name lent = model-again g standIn name number h
-again ter none g h standIn name lent = refl
-again endmdl none g h standIn name lent = refl
-again end none g h standIn name lent = refl
+again : {k : Kind} {asked : List ℕ} {s : Sheet} → Writable k asked s → (g : Given) → Lined (g .line) s → (standIn name : List ℕ) → Lent name (s .cells)
+    → Again k g standIn name asked s
+again (atom v position occupancy bfactor asked clean) g h standIn name lent =
+    rw (lent .1 .0) (atom-again g standIn asked v clean position occupancy bfactor (lined-held h) .0)
+again (hetatm v position occupancy bfactor asked clean) g h standIn name lent =
+    rw (lent .1 .0) (atom-again g standIn asked v clean position occupancy bfactor (lined-held h) .1)
+again (anisou v factors clean) g h standIn name lent = rw (lent .1 .0) (anisou-again g standIn [] v clean factors (lined-held h))
+again (cryst1 cell group z asked clean) g h standIn name lent =
+    cryst1-again g standIn asked name cell group z clean (h .width) (lined-stand h) (lined-held h)
+again (scale row v asked) g h standIn name lent = scale-again g standIn asked name row v (lined-held h)
+again (origx row v asked) g h standIn name lent = origx-again g standIn asked name row v (lined-held h)
+again (mtrix row serial v given asked) g h standIn name lent = mtrix-again g standIn asked name row v serial given (lined-held h)
+again (model number) g h standIn name lent = model-again g standIn [] name number h
+again ter g h standIn name lent = refl
+again endmdl g h standIn name lent = refl
+again end g h standIn name lent = refl
 
 redrawn-line : (s : Sheet) → Fit (s .cells) → Fit (redrawn s .cells) × (lineOf (redrawn s) ≡ lineOf s)
 unfolding lineOf
 redrawn-line s fit =
     let (fits, drawn) = cells-again (length (s .name)) (s .cells) fit in (fits, ap (λ (t : List ℕ). s .name ++ t) drawn)
 
-pub written-again : {k : Kind} {asked : List ℕ} {s : Sheet} → Writable k asked s → Fit (s .cells) → asked ≡ [] → (i : Input) → i .line ≡ lineOf s
+pub written-again : {k : Kind} {asked : List ℕ} {s : Sheet} → Writable k asked s → Fit (s .cells) → (i : Input) → i .line ≡ lineOf s
     → (standIn name : List ℕ) → Lent name (s .cells)
-    → Fit (itemSheet (itemOf k (given i)) (lineOf s) standIn name .cells)
-    × (lineOf (itemSheet (itemOf k (given i)) (lineOf s) standIn name) ≡ lineOf s)
-written-again {k} {s = s} w fit none i e standIn name lent =
+    → Fit (itemSheet (itemOf k (given i)) (lineOf s) standIn name asked .cells)
+    × (lineOf (itemSheet (itemOf k (given i)) (lineOf s) standIn name asked) ≡ lineOf s)
+written-again {k} {asked} {s} w fit i e standIn name lent =
     let h : Lined (i .line) s = rw e (written-lined w fit) in
-    let same : itemSheet (itemOf k (given i)) (lineOf s) standIn name ≡ redrawn s = rw e (rw e at (again w none (given i) h standIn name lent)) in
+    let same : itemSheet (itemOf k (given i)) (lineOf s) standIn name asked ≡ redrawn s = rw e (rw e at (again w (given i) h standIn name lent)) in
     rw same (redrawn-line s fit)

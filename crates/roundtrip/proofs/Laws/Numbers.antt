@@ -1,6 +1,6 @@
 -- A number that fits its columns reads back, without a fault.
 --     unsigned-in, signed-in     as itself
---     real-in                    as the double of the decimal that was written
+--     real-in                    as the double of the decimal that was written, with its places
 --     factor-in                  as that of the integer that was written
 --     rest-in                    a number read up to the line's end, with blanks before and behind it
 -- Assumes nothing.
@@ -22,7 +22,7 @@ use Rattle.number.specs.declared.whole.Unsigned.the-variants.{U}
 use Rattle.number.specs.declared.whole.Signed.the-variants.{I}
 use Rattle.real.specs.Real.{realOf, tenThousandthsOf}
 use Rattle.real.specs.declared.Real.the-variants.{R}
-use Rattle.field.specs.Number.{unsignedAt, unsignedFaults, signedAt, signedFaults, realAt, realFaults, factorAt, factorFaults, unsignedFrom, unsignedFromFaults, numberFaults}
+use Rattle.field.specs.Number.{unsignedAt, unsignedFaults, signedAt, signedFaults, realAt, realFaults, placesAt, factorAt, factorFaults, unsignedFrom, unsignedFromFaults, numberFaults}
 use Rattle.cell.specs.Cell.{fitting, texted, realFits, realBytes, factorFits, factorBytes}
 use Rattle.cell.specs.Places.{placesOf}
 use Rattle.cell.specs.Text.{blanks}
@@ -49,14 +49,14 @@ unfolding texted
 signed-said w z e few = rw e (signed-back w z (signed-small w z e few))
 
 real-said : (w q : ℕ) (x : Float) → realFits w q (placesOf q x) ≡ true → w ≤ 10
-    → realOf (realBytes w q (placesOf q x)) ≡ R (doubleBack q (placesOf q x))
+    → realOf (realBytes w q (placesOf q x)) ≡ R (doubleBack q (placesOf q x)) q
 real-said w q x e few = go (placesOf q x) refl e
   where
-    go : (p : Places) → placesOf q x ≡ p → realFits w q p ≡ true → realOf (realBytes w q (placesOf q x)) ≡ R (doubleBack q (placesOf q x))
+    go : (p : Places) → placesOf q x ≡ p → realFits w q p ≡ true → realOf (realBytes w q (placesOf q x)) ≡ R (doubleBack q (placesOf q x)) q
     go (Rounded s n) is e = rw is (rw is at (cell-again q w x s n is e few .0))
     go NoFit is e = cc
 
-factor-said : (w : ℕ) (p : Places) → factorFits w p ≡ true → w ≤ 7 → tenThousandthsOf (factorBytes w p) ≡ R (factorBack p)
+factor-said : (w : ℕ) (p : Places) → factorFits w p ≡ true → w ≤ 7 → tenThousandthsOf (factorBytes w p) ≡ R (factorBack p) 0
 unfolding tenThousandthsOf
 factor-said w (Rounded s n) e few =
     let long = factor-width w (Rounded s n) in
@@ -78,18 +78,18 @@ module _ {l : List ℕ} {at : Columns} where
       (rw said refl, rw (le-ltb (length l) (at .end) (h .reach), said) refl)
 
   pub real-in : {q : ℕ} {x : Float} (default : Float) → Held l (at holds real q x) → at .end - at .start ≤ 10
-      → (realAt l at default ≡ doubleBack q (placesOf q x)) × (realFaults l at ≡ [])
-  unfolding realAt numberFaults
+      → (realAt l at default ≡ doubleBack q (placesOf q x)) × (realFaults l at ≡ []) × (placesAt l at ≡ q)
+  unfolding realAt placesAt numberFaults
   real-in {q} {x} default h few =
-      let said : realOf (partOf l at) ≡ R (doubleBack q (placesOf q x)) =
+      let said : realOf (partOf l at) ≡ R (doubleBack q (placesOf q x)) q =
       ap realOf (h .part) ∙ real-said (at .end - at .start) q x (h .fits) few in
-      (rw said refl, rw (le-ltb (length l) (at .end) (h .reach), said) refl)
+      (rw said refl, rw (le-ltb (length l) (at .end) (h .reach), said) refl, rw said refl)
 
   pub factor-in : {x : Float} → Held l (at holds factor x) → at .end - at .start ≤ 7
       → (factorAt l at ≡ factorBack (placesOf 4 x)) × (factorFaults l at ≡ [])
   unfolding factorAt numberFaults
   factor-in {x} h few =
-      let said : tenThousandthsOf (partOf l at) ≡ R (factorBack (placesOf 4 x)) =
+      let said : tenThousandthsOf (partOf l at) ≡ R (factorBack (placesOf 4 x)) 0 =
       ap tenThousandthsOf (h .part) ∙ factor-said (at .end - at .start) (placesOf 4 x) (h .fits) few in
       (rw said refl, rw (le-ltb (length l) (at .end) (h .reach), said) refl)
 

@@ -1,6 +1,5 @@
 -- `writer::write_atom_record` meets its contract: texts and characters are shown by their views.
 -- Assumes nothing.
-use mathlib.Core.List.{[]}
 use mir.Syntax.{w64}
 use mir.Facts.{toZ-ofZ}
 use Rattle.printer.specs.Sheets.{Label, atomSheet}
@@ -27,9 +26,6 @@ view-requires-5 c κs = search needs
 view-requires-6 : tie.Need-view-requires-6
 view-requires-6 c κs = search needs
 
-slice-aggregate-write-atom : tie.Need-slice-aggregate-write-atom
-slice-aggregate-write-atom c = search needs
-
 write-atom-requires : tie.Need-write-atom-requires
 write-atom-requires c κs = search needs
 
@@ -40,14 +36,14 @@ returns : tie.Need-returns
 returns c =
     let start = c .before .before .before .before .before .before .before .before .before .before .before .before .before .before .before .before .before .before .before .before .before .before in
     let b = start .args .atom .basics in
-    written-by (λ (v : Label). atomSheet (start .args .atom .hetero) v (start .args .atom .position) (start .args .atom .occupancy) (start .args .atom .bfactor) []) _ _ _ (b .serial) _ _ _ _ _ _ _ _ _ _ _ _ _ _ _ _ _
-    (c .before .before .before .before .before .before .before .before .before .before .before .before .view .ensures)
-    (c .before .before .before .before .before .before .before .before .before .before .before .view2 .ensures)
-    (c .before .before .before .before .before .before .before .before .before .before .view3 .ensures)
+    written-by (λ (v : Label). atomSheet (start .args .atom .hetero) v (start .args .atom .position) (start .args .atom .occupancy) (start .args .atom .bfactor) (start .args .places .now)) _ _ _ (b .serial) _ _ _ _ _ _ _ _ _ _ _ _ _ _ _ _ _
+    (c .before .before .before .before .before .before .before .before .before .before .before .view .ensures)
+    (c .before .before .before .before .before .before .before .before .before .before .view2 .ensures)
+    (c .before .before .before .before .before .before .before .before .before .view3 .ensures)
     (toZ-ofZ {w = w64} {z = b .number} (record { sfits = c .before .before .before .before .struct-told .given .1 .1 .1 .1 .1 .0 .1 }))
-    (c .before .before .before .before .before .before .before .before .before .view4 .ensures)
-    (c .before .before .before .before .before .before .before .before .view5 .ensures)
-    (c .before .before .before .before .before .before .before .view6 .ensures)
+    (c .before .before .before .before .before .before .before .before .view4 .ensures)
+    (c .before .before .before .before .before .before .before .view5 .ensures)
+    (c .before .before .before .before .before .before .view6 .ensures)
     (toZ-ofZ {w = w64} {z = b .charge} (record { sfits = c .before .before .before .struct-told2 .given .1 .1 .1 .1 .1 .1 .1 .1 .1 .0 .1 }))
     (c .before .before .write-atom .ensures)
 
@@ -61,7 +57,6 @@ write-atom-record-spec =
     view-requires-4
     view-requires-5
     view-requires-6
-    slice-aggregate-write-atom
     write-atom-requires
     same-length
     returns)

@@ -7,9 +7,6 @@ use Rattle.writer.proofs.write_crystal_record.Tie as tie
 view-requires : tie.Need-view-requires
 view-requires c κs = search needs
 
-slice-aggregate-write-cell : tie.Need-slice-aggregate-write-cell
-slice-aggregate-write-cell c = search needs
-
 write-cell-requires : tie.Need-write-cell-requires
 write-cell-requires c κs = search needs
 
@@ -17,9 +14,9 @@ same-length : tie.Need-same-length
 same-length c = search needs
 
 returns : tie.Need-returns
-returns c = rw (c .before .before .before .before .before .view .ensures) at (c .before .before .write-cell .ensures)
+returns c = rw (c .before .before .before .before .view .ensures) at (c .before .before .write-cell .ensures)
 
 pub write-crystal-record-spec : {M : Type 1} → statement M
 write-crystal-record-spec =
     tie.close
-    (tie.spec view-requires slice-aggregate-write-cell write-cell-requires same-length returns)
+    (tie.spec view-requires write-cell-requires same-length returns)

@@ -35,26 +35,17 @@ write-crystal-record-requires c κs = search needs
 enum-known-item-4 : tie.Need-enum-known-item-4
 enum-known-item-4 c = search needs
 
-slice-aggregate-write-scale : tie.Need-slice-aggregate-write-scale
-slice-aggregate-write-scale c = search needs
-
 write-scale-requires : tie.Need-write-scale-requires
 write-scale-requires c κs = search needs
 
 enum-known-item-5 : tie.Need-enum-known-item-5
 enum-known-item-5 c = search needs
 
-slice-aggregate-write-origx : tie.Need-slice-aggregate-write-origx
-slice-aggregate-write-origx c = search needs
-
 write-origx-requires : tie.Need-write-origx-requires
 write-origx-requires c κs = search needs
 
 enum-known-item-6 : tie.Need-enum-known-item-6
 enum-known-item-6 c = search needs
-
-slice-aggregate-write-mtrix : tie.Need-slice-aggregate-write-mtrix
-slice-aggregate-write-mtrix c = search needs
 
 write-mtrix-requires : tie.Need-write-mtrix-requires
 write-mtrix-requires c κs = search needs
@@ -138,19 +129,19 @@ same-length-4 : tie.Need-same-length-4
 same-length-4 c = search needs
 
 returns-7 : tie.Need-returns-7
-returns-7 c = rw (c .before .before .before .before .before .before .before .item4 .given .1) (c .before .before .write-scale .ensures)
+returns-7 c = rw (c .before .before .before .before .before .before .item4 .given .1) (c .before .before .write-scale .ensures)
 
 same-length-5 : tie.Need-same-length-5
 same-length-5 c = search needs
 
 returns-8 : tie.Need-returns-8
-returns-8 c = rw (c .before .before .before .before .before .before .before .item5 .given .1) (c .before .before .write-origx .ensures)
+returns-8 c = rw (c .before .before .before .before .before .before .item5 .given .1) (c .before .before .write-origx .ensures)
 
 same-length-6 : tie.Need-same-length-6
 same-length-6 c = search needs
 
 returns-9 : tie.Need-returns-9
-returns-9 c = rw (c .before .before .before .before .before .before .before .item6 .given .1) (c .before .before .write-mtrix .ensures)
+returns-9 c = rw (c .before .before .before .before .before .before .item6 .given .1) (c .before .before .write-mtrix .ensures)
 
 same-length-7 : tie.Need-same-length-7
 same-length-7 c = search needs
@@ -214,13 +205,10 @@ write-record-spec =
     enum-known-item-3
     write-crystal-record-requires
     enum-known-item-4
-    slice-aggregate-write-scale
     write-scale-requires
     enum-known-item-5
-    slice-aggregate-write-origx
     write-origx-requires
     enum-known-item-6
-    slice-aggregate-write-mtrix
     write-mtrix-requires
     enum-known-item-7
     write-model-requires

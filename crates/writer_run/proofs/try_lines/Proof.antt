@@ -39,6 +39,9 @@ try-line-requires c κs = search needs
 shared-slice-read-if3 : tie.Need-shared-slice-read-if3 Inv-loop μ-loop
 shared-slice-read-if3 c = search needs
 
+shared-slice-read-if4 : tie.Need-shared-slice-read-if4 Inv-loop μ-loop
+shared-slice-read-if4 c = search needs
+
 sub-try-line : tie.Need-sub-try-line Inv-loop μ-loop
 sub-try-line c = search needs
 
@@ -47,6 +50,9 @@ part-try-line-start c = search needs
 
 part-try-line-end : tie.Need-part-try-line-end Inv-loop μ-loop
 part-try-line-end c = search needs
+
+shared-slice-read-try-line : tie.Need-shared-slice-read-try-line Inv-loop μ-loop
+shared-slice-read-try-line c = search needs
 
 try-line-requires-2 : tie.Need-try-line-requires-2 Inv-loop μ-loop
 try-line-requires-2 c κs = search needs
@@ -90,9 +96,11 @@ try-lines-spec =
     line-requires
     try-line-requires
     shared-slice-read-if3
+    shared-slice-read-if4
     sub-try-line
     part-try-line-start
     part-try-line-end
+    shared-slice-read-try-line
     try-line-requires-2
     try-line-requires-3
     loop-less

@@ -2,7 +2,7 @@
 -- Assumes nothing.
 use mathlib.Core.Path.{refl, sym, ap, _∙_}
 use denote.Ref.{now}
-use Rattle.field.specs.Number.{numberFaults, realAt}
+use Rattle.field.specs.Number.{numberFaults, realAt, placesAt}
 use Rattle.field.proofs.Laws.Fields.{part-short, real-none}
 use Rattle.real.specs.Real.{realOf}
 use borrow.Author.Needs.{needs}
@@ -13,7 +13,7 @@ ends-before-requires : tie.Need-ends-before-requires
 ends-before-requires c κs = search needs
 
 returns : tie.Need-returns
-unfolding realAt numberFaults
+unfolding realAt placesAt numberFaults
 returns c =
     let l = c .before .before .before .args .line .now in
     let at = c .before .before .before .args .at in
@@ -33,14 +33,14 @@ enum-told : tie.Need-enum-told
 enum-told c = search needs
 
 returns-2 : tie.Need-returns-2
-unfolding realAt numberFaults
+unfolding realAt placesAt numberFaults
 returns-2 c =
     let e = sym (c .before .before .before .before .before .before .ends-before .ensures) ∙ c .before .before .before .before .before .if1 .left in
     let said = sym (c .before .before .before .read-real .ensures ∙ ap realOf (c .before .before .before .before .part .ensures)) ∙ c .before .value .given .1 in
     rw (said, e) refl
 
 returns-3 : tie.Need-returns-3
-unfolding realAt numberFaults
+unfolding realAt placesAt numberFaults
 returns-3 c =
     let e = sym (c .before .before .before .before .before .ends-before .ensures) ∙ c .before .before .before .before .if1 .left in
     let said = sym (c .before .before .read-real .ensures ∙ ap realOf (c .before .before .before .part .ensures)) ∙ c .enum-told .given .1 in

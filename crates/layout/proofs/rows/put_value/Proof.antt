@@ -32,17 +32,26 @@ put-hex-requires c κs = search needs
 enum-known-value-4 : tie.Need-enum-known-value-4
 enum-known-value-4 c = search needs
 
-put-field-requires : tie.Need-put-field-requires
-put-field-requires c κs = search needs
+bits-of-requires-2 : tie.Need-bits-of-requires-2
+bits-of-requires-2 c κs = search needs
+
+put-hex-requires-2 : tie.Need-put-hex-requires-2
+put-hex-requires-2 c κs = search needs
 
 enum-known-value-5 : tie.Need-enum-known-value-5
 enum-known-value-5 c = search needs
 
-put-field-requires-2 : tie.Need-put-field-requires-2
-put-field-requires-2 c κs = search needs
+put-field-requires : tie.Need-put-field-requires
+put-field-requires c κs = search needs
 
 enum-known-value-6 : tie.Need-enum-known-value-6
 enum-known-value-6 c = search needs
+
+put-field-requires-2 : tie.Need-put-field-requires-2
+put-field-requires-2 c κs = search needs
+
+enum-known-value-7 : tie.Need-enum-known-value-7
+enum-known-value-7 c = search needs
 
 put-byte-requires : tie.Need-put-byte-requires
 put-byte-requires c κs = search needs
@@ -51,7 +60,7 @@ same-length : tie.Need-same-length
 same-length c = search needs
 
 returns : tie.Need-returns
-returns c = rw (c .before .before .before .before .before .before .value6 .given .1) (rw (c .before .before .before .before .if1 .taken) (c .before .before .put-byte .ensures))
+returns c = rw (c .before .before .before .before .before .before .value7 .given .1) (rw (c .before .before .before .before .if1 .taken) (c .before .before .put-byte .ensures))
 
 put-byte-requires-2 : tie.Need-put-byte-requires-2
 put-byte-requires-2 c κs = search needs
@@ -84,23 +93,29 @@ same-length-5 : tie.Need-same-length-5
 same-length-5 c = search needs
 
 returns-5 : tie.Need-returns-5
-returns-5 c = rw (c .before .before .before .before .before .value4 .given .1) (c .before .before .put-field .ensures)
+returns-5 c = rw (c .before .before .before .before .before .before .value4 .given .1) (rw (c .before .before .before .bits-of2 .ensures) at (c .before .before .put-hex2 .ensures))
 
 same-length-6 : tie.Need-same-length-6
 same-length-6 c = search needs
 
 returns-6 : tie.Need-returns-6
-returns-6 c = rw (c .before .before .before .before .before .value5 .given .1) (c .before .before .put-field2 .ensures)
+returns-6 c = rw (c .before .before .before .before .before .value5 .given .1) (c .before .before .put-field .ensures)
 
 same-length-7 : tie.Need-same-length-7
 same-length-7 c = search needs
 
 returns-7 : tie.Need-returns-7
-returns-7 c = rw (c .before .before .before .before .before .before .value6 .given .1) (rw (c .before .before .before .before .if1 .left) (c .before .before .put-byte2 .ensures))
+returns-7 c = rw (c .before .before .before .before .before .value6 .given .1) (c .before .before .put-field2 .ensures)
+
+same-length-8 : tie.Need-same-length-8
+same-length-8 c = search needs
 
 returns-8 : tie.Need-returns-8
+returns-8 c = rw (c .before .before .before .before .before .before .value7 .given .1) (rw (c .before .before .before .before .if1 .left) (c .before .before .put-byte2 .ensures))
+
+returns-9 : tie.Need-returns-9
 unfolding put
-returns-8 c = rw (c .enum-told .given .1) refl
+returns-9 c = rw (c .enum-told .given .1) refl
 
 pub put-value-spec : {M : Type 1} → statement M
 put-value-spec =
@@ -114,10 +129,13 @@ put-value-spec =
     bits-of-requires
     put-hex-requires
     enum-known-value-4
-    put-field-requires
+    bits-of-requires-2
+    put-hex-requires-2
     enum-known-value-5
-    put-field-requires-2
+    put-field-requires
     enum-known-value-6
+    put-field-requires-2
+    enum-known-value-7
     put-byte-requires
     same-length
     returns
@@ -135,4 +153,6 @@ put-value-spec =
     returns-6
     same-length-7
     returns-7
-    returns-8)
+    same-length-8
+    returns-8
+    returns-9)

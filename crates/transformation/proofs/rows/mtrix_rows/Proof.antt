@@ -5,11 +5,11 @@ use borrow.Author.Needs.{needs}
 use Rattle.transformation.proofs.rows.mtrix_rows.Statement.{statement}
 use Rattle.transformation.proofs.rows.mtrix_rows.Tie as tie
 
-cast-t20 : tie.Need-cast-t20
-cast-t20 c = search needs
+cast-t21 : tie.Need-cast-t21
+cast-t21 c = search needs
 
 returns : tie.Need-returns
 returns c = refl
 
 pub mtrix-rows-spec : {M : Type 1} → statement M
-mtrix-rows-spec = tie.close (tie.spec cast-t20 returns)
+mtrix-rows-spec = tie.close (tie.spec cast-t21 returns)
