@@ -43,6 +43,17 @@ extern "C" {
 /* Bits of `options`; the others have no effect. */
 #define SALTIGHEDDA_ATOMS_ONLY UINT32_C(1) /* every kind but ATOM, HETATM, MODEL, ENDMDL, TER and END is EMPTY */
 #define SALTIGHEDDA_LOOSE      UINT32_C(2) /* lets remarks of 80 bytes and more pass */
+#define SALTIGHEDDA_WWPDB      UINT32_C(4) /* wwPDB mode */
+
+/*
+ * Lines are read as the Rust crate pdbtbx reads them, unless wwPDB mode is asked for. It reads three things as wwPDB 3.30 prints
+ * them, and all else alike:
+ *
+ *     MODEL's number stands in 10..14: its row is f10, and a line under 14 bytes has fault 1 there (else it stands from 6 to the end
+ *     of the line, and its row is f6)
+ *     DBREF1's end stands in 20..24: its row is f20 (else it is 21..24 and f21, and an end of 1234 reads as 234)
+ *     a line of the six bytes ENDMDL is ENDMDL (else it is END)
+ */
 
 /* An output of so many bytes has room for every listing. */
 #define SALTIGHEDDA_LONGEST 4096

@@ -223,6 +223,10 @@ $CC $warned -Iinclude -o "$folder/face" tests/face.c target/staticlib/libsaltigh
 "$run" "$folder/face" || fail "an entry isn't as the header says"
 echo "c: the entries are as the header says"
 
+$CC $warned -Iinclude -o "$folder/modes" tests/modes.c target/staticlib/libsaltighedda.a
+"$run" "$folder/modes" || fail "a line isn't read in wwPDB mode as the header says"
+echo "c: drawn lines are read in wwPDB mode by its three rules, and all others as in crate mode"
+
 $CC $warned -Iinclude -o "$folder/host" examples/host.c target/staticlib/libsaltighedda.a
 told "$run" "$folder/host"
 status=0

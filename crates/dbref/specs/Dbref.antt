@@ -1,5 +1,6 @@
 -- "DBREF: T 7..11 12..13, I 14..18, C 18, I 20..24, C 24, T 26..32 33..41 42..54, I 55..60, C 60, I 62..67, C 67. DBREF1: T 7..11 12..13,
--- I 14..18, C 18, I 21..24, C 24, T 26..32 47..67. DBREF2: T 7..11 12..13 18..40, I 45..55 57..67."
+-- I 14..18, C 18, I 21..24, C 24, T 26..32 47..67. DBREF2: T 7..11 12..13 18..40, I 45..55 57..67." In wwPDB mode DBREF1's end is
+-- where "wwPDB has it in 20..24".
 use Prim.Native.Nat.{ℕ}
 use mathlib.Core.List.{List, [], _∷_, _++_}
 use Rattle.field.specs.Number.{signedAt}
@@ -11,6 +12,8 @@ use Rattle.line.specs.Faults.{noFaults}
 use Rattle.line.specs.Given.{Given}
 use Rattle.line.specs.declared.columns.Columns.{Columns}
 use Rattle.line.specs.declared.fault.Faults.{Faults}
+use Rattle.line.specs.declared.options.Mode.{Mode}
+use Rattle.line.specs.declared.options.Mode.the-variants.{Crate, WwPdb}
 use Rattle.row.specs.Rows.{_is_}
 use Rattle.row.specs.declared.Row.{Row}
 use Rattle.row.specs.declared.Value.the-variants.{Signed, Words, One}
@@ -30,12 +33,19 @@ pub record SegmentAt : Type 0 where
   pub end : Columns
   pub closing : Columns
 
-abbrev pub ownSegment : SegmentAt
-ownSegment = record { begin = 14 ⋯ 18; opening = only 18; end = 20 ⋯ 24; closing = only 24 }
+abbrev pub endingIn : Columns → SegmentAt
+endingIn end = record { begin = 14 ⋯ 18; opening = only 18; end = end; closing = only 24 }
 
--- a DBREF1's end begins a column later
-abbrev pub lateSegment : SegmentAt
-lateSegment = record { begin = 14 ⋯ 18; opening = only 18; end = 21 ⋯ 24; closing = only 24 }
+abbrev pub ownSegment : SegmentAt
+ownSegment = endingIn (20 ⋯ 24)
+
+-- in crate mode a DBREF1's end begins a column later
+abbrev pub endBy : Mode → Columns
+endBy Crate = 21 ⋯ 24
+endBy WwPdb = 20 ⋯ 24
+
+abbrev pub segmentBy : Mode → SegmentAt
+segmentBy mode = endingIn (endBy mode)
 
 abbrev pub databaseSegment : SegmentAt
 databaseSegment = record { begin = 55 ⋯ 60; opening = only 60; end = 62 ⋯ 67; closing = only 67 }
@@ -68,8 +78,8 @@ dbrefTable =
     ∷ t (at name)
     ∷ segmentTable databaseSegment
 
-abbrev pub dbref1Table : List Entry
-dbref1Table = t (at code) ∷ t (at chain) ∷ segmentTable lateSegment ++ t (at database) ∷ t (at name1) ∷ []
+abbrev pub dbref1Table : Mode → List Entry
+dbref1Table mode = t (at code) ∷ t (at chain) ∷ segmentTable (segmentBy mode) ++ t (at database) ∷ t (at name1) ∷ []
 
 abbrev pub dbref2Table : List Entry
 dbref2Table = t (at code) ∷ t (at chain) ∷ t (at accession2) ∷ i (at begin2) ∷ i (at end2) ∷ []
@@ -93,13 +103,15 @@ dbrefOf l = record {
   target = segmentOf l databaseSegment;
 }
 
-abbrev pub dbref1Of : List ℕ → Dbref1
-dbref1Of l = record {
+-- a record says by which mode it was read
+abbrev pub dbref1Of : Mode → List ℕ → Dbref1
+dbref1Of mode l = record {
   code = textAt l (at code);
   chain = textAt l (at chain);
-  segment = segmentOf l lateSegment;
+  segment = segmentOf l (segmentBy mode);
   database = textAt l (at database);
   name = textAt l (at name1);
+  mode = mode;
 }
 
 abbrev pub dbref2Of : List ℕ → Dbref2
@@ -121,7 +133,9 @@ abbrev pub gotDbref : Given → GotDbref
 gotDbref g = record { value = dbrefOf (g .line); faults = tableNoted g dbrefTable noFaults }
 
 abbrev pub gotDbref1 : Given → GotDbref1
-gotDbref1 g = record { value = dbref1Of (g .line); faults = tableNoted g dbref1Table noFaults }
+gotDbref1 g =
+    let mode = g .options .mode in
+    record { value = dbref1Of mode (g .line); faults = tableNoted g (dbref1Table mode) noFaults }
 
 abbrev pub gotDbref2 : Given → GotDbref2
 gotDbref2 g = record { value = dbref2Of (g .line); faults = tableNoted g dbref2Table noFaults }
@@ -148,7 +162,7 @@ abbrev pub dbref1Fields : Dbref1 → List Row
 dbref1Fields v =
     at code .start is Words (v .code)
     ∷ at chain .start is Words (v .chain)
-    ∷ segmentFields lateSegment (v .segment)
+    ∷ segmentFields (segmentBy (v .mode)) (v .segment)
     ++ at database .start is Words (v .database)
     ∷ at name1 .start is Words (v .name)
     ∷ []

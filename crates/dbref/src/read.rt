@@ -1,6 +1,6 @@
 // DBREF, DBREF1 and DBREF2.
 ghost use mathlib.Core.Path.{_≡_};
-ghost use Rattle.line.specs.Given.{alone};
+ghost use Rattle.line.specs.Given.{alone, inMode};
 ghost use Rattle.dbref.specs.Dbref as specs;
 use crate::record::Dbref;
 use crate::record::Dbref1;
@@ -11,6 +11,7 @@ use field::text_field::character;
 use field::text_field::text;
 use line::columns::Columns;
 use line::fault::Faults;
+use line::options::Mode;
 
 pub struct GotDbref {
     pub value: Dbref,
@@ -94,16 +95,17 @@ pub fn lex_dbref(line: &[u8]) -> GotDbref
     }
 }
 
-pub fn lex_dbref1(line: &[u8]) -> GotDbref1
-    ensures { λ r. ⌜ r ≡ specs.gotDbref1 (alone (now (line .entry))) ⌝ }
+pub fn lex_dbref1(line: &[u8], mode: Mode) -> GotDbref1
+    ensures { λ r. ⌜ r ≡ specs.gotDbref1 (inMode mode (now (line .entry))) ⌝ }
 {
+    let end = Dbref1::end(mode);
     let code = text(line, Dbref::CODE, Faults::none());
     let chain = text(line, Dbref::CHAIN, code.faults);
     let segment = lex_segment(
         line,
         Dbref::BEGIN,
         Dbref::OPENING,
-        Dbref1::END,
+        end,
         Dbref::CLOSING,
         chain.faults,
     );
@@ -115,6 +117,7 @@ pub fn lex_dbref1(line: &[u8]) -> GotDbref1
         segment.value,
         database.value,
         name.value,
+        mode,
     );
     let faults = name.faults;
     GotDbref1 {

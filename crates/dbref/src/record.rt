@@ -1,6 +1,8 @@
 // DBREF, DBREF1 and DBREF2.
 ghost use mathlib.Core.Path.{_≡_};
+ghost use Rattle.dbref.specs.Dbref as specs;
 use line::columns::Columns;
+use line::options::Mode;
 use line::text::Character;
 use line::text::Text;
 
@@ -86,13 +88,14 @@ impl Dbref {
     }
 }
 
-// A DBREF1: the number of its segment's end begins a column later than a DBREF's.
+// A DBREF1 and the mode by which it was read: in crate mode the number of its segment's end begins a column later than a DBREF's.
 pub struct Dbref1 {
     pub code: Text,
     pub chain: Text,
     pub segment: Segment,
     pub database: Text,
     pub name: Text,
+    pub mode: Mode,
 }
 
 impl Dbref1 {
@@ -100,8 +103,15 @@ impl Dbref1 {
 
     pub const NAME: Columns = Columns { start: 47, end: 67 };
 
-    pub fn new(code: Text, chain: Text, segment: Segment, database: Text, name: Text) -> Self
-        ensures { λ r. ⌜ r ≡ record { code = code; chain = chain; segment = segment; database = database; name = name } ⌝ }
+    pub fn new(
+        code: Text,
+        chain: Text,
+        segment: Segment,
+        database: Text,
+        name: Text,
+        mode: Mode,
+    ) -> Self
+        ensures { λ r. ⌜ r ≡ record { code = code; chain = chain; segment = segment; database = database; name = name; mode = mode } ⌝ }
     {
         Dbref1 {
             code,
@@ -109,6 +119,17 @@ impl Dbref1 {
             segment,
             database,
             name,
+            mode,
+        }
+    }
+
+    // The columns of its segment's end.
+    pub fn end(mode: Mode) -> Columns
+        ensures { λ r. ⌜ r ≡ specs.endBy mode ⌝ }
+    {
+        match mode {
+            Mode::Crate => Dbref1::END,
+            Mode::WwPdb => Dbref::END,
         }
     }
 }

@@ -55,13 +55,15 @@ pub fn dbref1_rows(dbref1: Dbref1) -> Rows
     let closing = segment.closing;
     let database = dbref1.database;
     let name = dbref1.name;
+    let mode = dbref1.mode;
+    let end = Dbref1::end(mode);
     let none = Row::NONE;
     let list = [
         Row(Dbref::CODE.start, Value::Words(code)),
         Row(Dbref::CHAIN.start, Value::Words(chain)),
         Row(Dbref::BEGIN.start, Value::Signed(segment.begin)),
         Row(Dbref::OPENING, Value::One(opening)),
-        Row(Dbref1::END.start, Value::Signed(segment.end)),
+        Row(end.start, Value::Signed(segment.end)),
         Row(Dbref::CLOSING, Value::One(closing)),
         Row(Dbref::DATABASE.start, Value::Words(database)),
         Row(Dbref1::NAME.start, Value::Words(name)),

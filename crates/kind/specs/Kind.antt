@@ -1,5 +1,5 @@
 -- "Over 6 bytes: the first six decide. All else is EMPTY. Atoms only keeps ATOM, HETATM, MODEL, ENDMDL, TER, END and makes the rest EMPTY. From 3
--- to 6 bytes: TER or END by the first three, else EMPTY. Under 3: EMPTY."
+-- to 6 bytes: TER or END by the first three, else EMPTY. Under 3: EMPTY." In wwPDB mode "a six-byte ENDMDL ends a model".
 use Prim.Native.Nat.{ℕ, _+_}
 use Prim.Native.String.{String}
 use mathlib.Core.Bool.{Bool, true, false, cond, _&&_}
@@ -7,6 +7,8 @@ use mathlib.Core.List.{List, [], _∷_}
 use lib.ListN.{length, take}
 use lib.Dec.{ltb, eqb}
 use Rattle.line.specs.Bytes.{bytes}
+use Rattle.line.specs.declared.options.Mode.{Mode}
+use Rattle.line.specs.declared.options.Mode.the-variants.{Crate, WwPdb}
 use Rattle.kind.specs.declared.Kind.{Kind}
 use Rattle.kind.specs.declared.Kind.the-variants.{Empty, Header, Remark, Atom, Hetatm, Anisou, Cryst1, Scale, Origx, Mtrix, Model, Master, Dbref, Dbref1, Dbref2, Seqres, Seqadv, Modres, Ssbond, Endmdl, Ter, End}
 
@@ -108,9 +110,14 @@ abbrev pub kindBy : List ℕ → List Named → Kind
 kindBy text [] = Empty
 kindBy text (n ∷ t) = cond (same text (n .name)) (n .kind) (kindBy text t)
 
--- the kind of a line, under atoms only or not
-unfoldable pub kindOf : Bool → List ℕ → Kind
-kindOf atoms l =
+-- whether a line is the six bytes that end a model
+abbrev pub endsModel : Mode → List ℕ → Bool
+endsModel Crate l = false
+endsModel WwPdb l = same l (bytes "ENDMDL")
+
+-- the kind of a line, under atoms only or not, in a mode
+unfoldable pub kindOf : Bool → Mode → List ℕ → Kind
+kindOf atoms mode l =
     cond (ltb 6 (length l))
     (kindBy (take 6 l) (namesBy atoms))
-    (cond (ltb 2 (length l)) (kindBy (take 3 l) shortNames) Empty)
+    (cond (endsModel mode l) Endmdl (cond (ltb 2 (length l)) (kindBy (take 3 l) shortNames) Empty))

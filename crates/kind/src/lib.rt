@@ -4,6 +4,7 @@ ghost use Prim.Native.Nat.{_≤_};
 ghost use lib.ListN.{length, take};
 ghost use Rattle.kind.specs.Key.{keyOf, kindByKey};
 ghost use Rattle.kind.specs.Kind as specs;
+use line::options::Mode;
 
 pub mod name;
 
@@ -128,12 +129,30 @@ fn named_by(atoms: bool, key: u64) -> Kind
     named(key)
 }
 
-// The kind of a line, under atoms only or not.
-pub fn kind_of(atoms: bool, line: &[u8]) -> Kind
-    ensures { λ r. ⌜ r ≡ specs.kindOf atoms (now (line .entry)) ⌝ }
+// Whether the line is the six bytes ENDMDL, and they end a model.
+fn ends_model(mode: Mode, line: &[u8]) -> bool
+    ensures { λ r. ⌜ r ≡ specs.endsModel mode (now (line .entry)) ⌝ }
+{
+    match mode {
+        Mode::Crate => false,
+        Mode::WwPdb => {
+            if line.len() != 6 {
+                return false;
+            }
+            six(line) == 0x454e444d444c
+        }
+    }
+}
+
+// The kind of a line, under atoms only or not, in a mode.
+pub fn kind_of(atoms: bool, mode: Mode, line: &[u8]) -> Kind
+    ensures { λ r. ⌜ r ≡ specs.kindOf atoms mode (now (line .entry)) ⌝ }
 {
     if 6 < line.len() {
         return named_by(atoms, six(line));
+    }
+    if ends_model(mode, line) {
+        return Kind::Endmdl;
     }
     if 2 < line.len() {
         return named_short(three(line));

@@ -26,7 +26,7 @@ pub record Input : Type 0 where
   pub remarks : List ℕ
 
 abbrev pub kind : Input → Kind
-kind i = kindOf (i .options .atoms) (i .line)
+kind i = kindOf (i .options .atoms) (i .options .mode) (i .line)
 
 abbrev pub given : Input → Given
 given i = record { line = i .line; options = i .options; remarks = i .remarks }

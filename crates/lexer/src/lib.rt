@@ -116,5 +116,12 @@ pub fn lex_line(line: &[u8], number: usize, options: Options, remarks: &[u8]) ->
     if plain < line.len() {
         return refuse(number, Refusal::new(3, plain, 1));
     }
-    read_as(line, number, kind_of(options.atoms, line), options, remarks)
+    let mode = options.mode;
+    read_as(
+        line,
+        number,
+        kind_of(options.atoms, mode, line),
+        options,
+        remarks,
+    )
 }

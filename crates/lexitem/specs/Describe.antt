@@ -1,11 +1,12 @@
 -- What is said of each kind: what it asks of its line, its table of fields, and its record; and of each record: its rows and its kind. A part
--- that only some lines have is a Bool argument of the table. "6: CRYST1 under 55, MODRES under 29, SEQADV under 49, SSBOND under 36."
+-- that only some lines have is a Bool argument of the table, and the mode is another. "6: CRYST1 under 55, MODRES under 29, SEQADV under 49, SSBOND under 36."
 use Prim.Native.Nat.{ℕ}
 use mathlib.Core.Bool.{Bool, true, false, cond}
 use mathlib.Core.List.{List, [], _∷_}
 use Rattle.field.specs.Table.{Entry, tableFaults}
 use Rattle.line.specs.Given.{Given}
 use Rattle.line.specs.declared.fault.Fault.{Fault}
+use Rattle.line.specs.declared.options.Mode.{Mode}
 use Rattle.header.specs.Header.{headerTable, headerOf, headerFields}
 use Rattle.remark.specs.Remark.{remarkTable, remarkOf, remarkFields}
 use Rattle.atom.specs.Atom.{atomTable, atomOf, anisouTable, anisouOf, atomFields, anisouFields}
@@ -31,21 +32,30 @@ pub record Description : Type 0 where
   pub bound : Bound
   -- whether a line has the part that only some have
   pub part : List ℕ → Bool
-  -- the fields, with that part or without, in the order of the faults
-  pub table : Bool → List Entry
+  -- the fields in a mode, with that part or without, in the order of the faults
+  pub table : Mode → Bool → List Entry
   pub item : Given → LexItem
 
 -- a kind that asks nothing of its line, whose lines have all the same fields
 abbrev pub plainly : List Entry → (Given → LexItem) → Description
-plainly table item = record { bound = bound.Free; part = λ l. false; table = λ part. table; item = item }
+plainly table item = record { bound = bound.Free; part = λ l. false; table = λ mode part. table; item = item }
+
+-- one whose fields go by the mode
+abbrev pub moded : (Mode → List Entry) → (Mode → List ℕ → LexItem) → Description
+moded table item = record {
+  bound = bound.Free;
+  part = λ l. false;
+  table = λ mode part. table mode;
+  item = λ g. item (g .options .mode) (g .line);
+}
 
 -- one that asks something
 abbrev pub asking : Bound → List Entry → (Given → LexItem) → Description
-asking b table item = record { bound = b; part = λ l. false; table = λ part. table; item = item }
+asking b table item = record { bound = b; part = λ l. false; table = λ mode part. table; item = item }
 
 -- one that asks for so many bytes, some of whose lines have a part
 abbrev pub parted : ℕ → (List ℕ → Bool) → (Bool → List Entry) → (Given → LexItem) → Description
-parted least part table item = record { bound = bound.Least least; part = part; table = table; item = item }
+parted least part table item = record { bound = bound.Least least; part = part; table = λ mode. table; item = item }
 
 abbrev pub describe : Kind → Description
 describe Empty = plainly [] (λ g. item.Empty)
@@ -58,10 +68,10 @@ describe Cryst1 = parted 55 hasZ crystalTable (λ g. item.Crystal (crystalOf (g 
 describe (Scale row) = plainly transformationTable (λ g. item.Scale (scaleOf row (g .line)))
 describe (Origx row) = plainly transformationTable (λ g. item.OrigX (origxOf row (g .line)))
 describe (Mtrix row) = plainly mtrixTable (λ g. item.MtriX (mtrixOf row (g .line)))
-describe Model = plainly modelTable (λ g. item.Model (modelOf (g .line)))
+describe Model = moded modelTable (λ mode l. item.Model (modelOf mode l))
 describe Master = plainly masterTable (λ g. item.Master (masterOf (g .line)))
 describe Dbref = plainly dbrefTable (λ g. item.Dbref (dbrefOf (g .line)))
-describe Dbref1 = plainly dbref1Table (λ g. item.Dbref1 (dbref1Of (g .line)))
+describe Dbref1 = moded dbref1Table (λ mode l. item.Dbref1 (dbref1Of mode l))
 describe Dbref2 = plainly dbref2Table (λ g. item.Dbref2 (dbref2Of (g .line)))
 describe Seqres = plainly seqresTable (λ g. item.Seqres (seqresOf (g .line)))
 describe Seqadv = parted 49 hasTarget seqadvTable (λ g. item.Seqadv (seqadvOf (g .line)))
@@ -74,19 +84,19 @@ describe End = plainly [] (λ g. item.End)
 abbrev pub boundOf : Kind → Bound
 boundOf k = describe k .bound
 
-abbrev pub tableOf : Kind → Bool → List Entry
-tableOf k part = describe k .table part
+abbrev pub tableOf : Mode → Kind → Bool → List Entry
+tableOf mode k part = describe k .table mode part
 
 -- the fields of a line of a kind
-abbrev pub fieldsBy : Kind → List ℕ → List Entry
-fieldsBy k l = tableOf k (describe k .part l)
+abbrev pub fieldsBy : Kind → Given → List Entry
+fieldsBy k g = tableOf (g .options .mode) k (describe k .part (g .line))
 
 abbrev pub itemOf : Kind → Given → LexItem
 itemOf k g = describe k .item g
 
 -- the faults of a line of a kind, in the order of its table
 unfoldable pub faultsOf : Kind → Given → List Fault
-faultsOf k g = tableFaults g (fieldsBy k (g .line))
+faultsOf k g = tableFaults g (fieldsBy k g)
 
 -- ---- of a record
 -- "Every field of a kind's row is present (Z and given always), except an absent C, an SSBOND or SEQADV part not read, and triples not read." What

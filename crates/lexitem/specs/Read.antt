@@ -11,4 +11,4 @@ abbrev pub bareOf : LexItem → GotItem
 bareOf item = record { value = item; faults = noFaults }
 
 abbrev pub gotItem : Kind → Given → GotItem
-gotItem k g = record { value = itemOf k g; faults = tableNoted g (fieldsBy k (g .line)) noFaults }
+gotItem k g = record { value = itemOf k g; faults = tableNoted g (fieldsBy k g) noFaults }

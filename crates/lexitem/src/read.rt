@@ -259,10 +259,16 @@ pub fn lex_as(kind: Kind, line: &[u8], options: Options, remarks: &[u8]) -> GotI
         Kind::Scale(row) => GotItem::scale(lex_scale(line, row)),
         Kind::Origx(row) => GotItem::origx(lex_origx(line, row)),
         Kind::Mtrix(row) => GotItem::mtrix(lex_mtrix(line, row)),
-        Kind::Model => GotItem::model(lex_model(line)),
+        Kind::Model => {
+            let mode = options.mode;
+            GotItem::model(lex_model(line, mode))
+        }
         Kind::Master => GotItem::master(lex_master(line)),
         Kind::Dbref => GotItem::dbref(lex_dbref(line)),
-        Kind::Dbref1 => GotItem::dbref1(lex_dbref1(line)),
+        Kind::Dbref1 => {
+            let mode = options.mode;
+            GotItem::dbref1(lex_dbref1(line, mode))
+        }
         Kind::Dbref2 => GotItem::dbref2(lex_dbref2(line)),
         Kind::Seqres => GotItem::seqres(lex_seqres(line)),
         Kind::Seqadv => GotItem::seqadv(lex_seqadv(line)),

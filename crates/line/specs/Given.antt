@@ -1,7 +1,9 @@
 -- What a line is read with: the options and the lent remark table. Tables, values and readers are all of this one thing.
 use Prim.Native.Nat.{ℕ}
+use mathlib.Core.Bool.{false}
 use mathlib.Core.List.{List, []}
 use Rattle.line.specs.Options.{plain}
+use Rattle.line.specs.declared.options.Mode.{Mode}
 use Rattle.line.specs.declared.options.Options.{Options}
 
 pub record Given : Type 0 where
@@ -12,3 +14,7 @@ pub record Given : Type 0 where
 -- a line alone: what most kinds are read from
 abbrev pub alone : List ℕ → Given
 alone l = record { line = l; options = plain; remarks = [] }
+
+-- a line and the mode: what the two kinds are read from that the modes read differently
+abbrev pub inMode : Mode → List ℕ → Given
+inMode mode l = record { line = l; options = record { atoms = false; loose = false; mode = mode }; remarks = [] }

@@ -1,7 +1,8 @@
--- "Options are two: atoms only, and loose or not."
+-- "Options are two: atoms only, and loose or not." "Add a third option, crate or wwPDB."
 use mathlib.Core.Bool.{false}
+use Rattle.line.specs.declared.options.Mode.the-variants.{Crate}
 use Rattle.line.specs.declared.options.Options.{Options}
 
--- all kinds, not loose
+-- all kinds, not loose, in crate mode
 abbrev pub plain : Options
-plain = record { atoms = false; loose = false }
+plain = record { atoms = false; loose = false; mode = Crate }

@@ -10,9 +10,11 @@ use row::Value;
 pub fn model_rows(model: Model) -> Rows
     ensures { λ r. ⌜ r ≡ rowsOf (modelFields model) ⌝ }
 {
+    let mode = model.mode;
+    let column = Model::column(mode);
     let none = Row::NONE;
     let list = [
-        Row(Model::NUMBER, Value::Unsigned(model.number)),
+        Row(column, Value::Unsigned(model.number)),
         none,
         none,
         none,

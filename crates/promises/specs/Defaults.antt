@@ -15,13 +15,15 @@ use Rattle.seqadv.specs.declared.record.Target.{Target}
 use Rattle.seqadv.specs.declared.record.Target.the-variants.{Residue, NoResidue}
 use Rattle.ssbond.specs.declared.record.Tail.{Tail}
 use Rattle.ssbond.specs.declared.record.Tail.the-variants.{Bond, NoTail}
+use Rattle.line.specs.declared.options.Mode.{Mode}
+use Rattle.line.specs.declared.options.Mode.the-variants.{Crate, WwPdb}
 use Rattle.line.specs.declared.fault.Sort.the-variants.{Unsigned as U, Signed as I, Real as R}
 use Rattle.line.specs.declared.text.Character.{Character}
 use Rattle.line.specs.declared.text.Character.the-variants.{At, Unreached, Absent}
 use Rattle.line.specs.declared.text.Text.{Text}
 use Rattle.transformation.specs.declared.record.RowPlaces.{RowPlaces}
 use Rattle.transformation.specs.declared.record.Transformation.{Transformation}
-use Rattle.promises.specs.Edges.{Claim, Case, Told, fault, wrong, on, onUnknown, filled, real}
+use Rattle.promises.specs.Edges.{Claim, Case, Told, fault, wrong, on, onStandard, onUnknown, filled, real}
 use Rattle.promises.specs.Edges.Claim.{is, field, faults}
 
 -- 0.0 and 1.0
@@ -105,6 +107,31 @@ master = is (item.Master (record {
 abbrev segment : Character → Character → Segment
 segment opening closing = record { begin = pos 0; opening = opening; end = pos 0; closing = closing }
 
+-- a DBREF1 that ends with its name
+abbrev dbref1 : Mode → Claim
+dbref1 mode = is (item.Dbref1 (record {
+  code = none;
+  chain = none;
+  segment = segment Unreached Unreached;
+  database = none;
+  name = none;
+  mode = mode;
+}))
+
+-- its faults, by where its segment's end should be
+abbrev dbref1Faults : ℕ → ℕ → Claim
+dbref1Faults place length =
+    faults
+    (fault 1 7 4
+    ∷ fault 1 12 1
+    ∷ fault 1 14 4
+    ∷ fault 1 18 1
+    ∷ fault 1 place length
+    ∷ fault 1 24 1
+    ∷ fault 1 26 6
+    ∷ fault 1 47 20
+    ∷ [])
+
 abbrev seqadv : Target → Claim
 seqadv target = is (item.Seqadv (record {
   code = none;
@@ -152,6 +179,8 @@ defaults =
     ∷ faults (wrong U 7 3 ∷ rowFaults)
     ∷ [])
     ∷ on (filled 59 (bytes "MTRIX3") ++ bytes "1") (field item.MtriX (λ m. m .given) true ∷ [])
+    ∷ on (filled 14 (bytes "MODEL ")) (is (item.Model (record { number = 0; mode = Crate })) ∷ faults (wrong U 6 8 ∷ []) ∷ [])
+    ∷ onStandard (filled 14 (bytes "MODEL ")) (is (item.Model (record { number = 0; mode = WwPdb })) ∷ faults (wrong U 10 4 ∷ []) ∷ [])
     ∷ on (filled 70 (bytes "MASTER"))
     (master
     ∷ faults (map (λ column. wrong U column 5) (10 ∷ 15 ∷ 20 ∷ 25 ∷ 30 ∷ 35 ∷ 40 ∷ 45 ∷ 50 ∷ 55 ∷ 60 ∷ 65 ∷ []))
@@ -173,11 +202,10 @@ defaults =
     }))
     ∷ faults (wrong I 14 4 ∷ wrong I 20 4 ∷ wrong I 55 5 ∷ wrong I 62 5 ∷ [])
     ∷ [])
-    ∷ on (bytes "DBREF1 ")
-    (is (item.Dbref1 (record { code = none; chain = none; segment = segment Unreached Unreached; database = none; name = none }))
-    ∷ faults (fault 1 7 4 ∷ fault 1 12 1 ∷ fault 1 14 4 ∷ fault 1 18 1 ∷ fault 1 21 3 ∷ fault 1 24 1 ∷ fault 1 26 6 ∷ fault 1 47 20 ∷ [])
-    ∷ [])
+    ∷ on (bytes "DBREF1 ") (dbref1 Crate ∷ dbref1Faults 21 3 ∷ [])
+    ∷ onStandard (bytes "DBREF1 ") (dbref1 WwPdb ∷ dbref1Faults 20 4 ∷ [])
     ∷ on (filled 67 (bytes "DBREF1")) (faults (wrong I 14 4 ∷ wrong I 21 3 ∷ []) ∷ [])
+    ∷ onStandard (filled 67 (bytes "DBREF1")) (faults (wrong I 14 4 ∷ wrong I 20 4 ∷ []) ∷ [])
     ∷ on (filled 67 (bytes "DBREF2"))
     (is (item.Dbref2 (record { code = none; chain = none; accession = none; begin = pos 0; end = pos 0 }))
     ∷ faults (wrong I 45 10 ∷ wrong I 57 10 ∷ [])

@@ -2,14 +2,16 @@
 -- of the one from the other.
 --     fieldsOfTable           the fields of a table of ours
 --     without                 what one list has and the other lacks
---     compared, departures    a kind's two differences, as computed and as stated
+--     compared, departures    a kind's two differences in a mode, as computed and as stated
 -- Departures that aren't about columns or sorts stand in docs/DIFFERENCES.md only: an unsigned serial, a blank seqNum that is a fault, an
--- `ENDMDL` of six bytes that is END, defaults, short lines, kinds that the lexer makes EMPTY.
+-- `ENDMDL` of six bytes that is END in crate mode, defaults, short lines, kinds that the lexer makes EMPTY.
 use Prim.Native.Nat.{ℕ, suc, _+_}
 use mathlib.Core.Bool.{Bool, true, false, cond, _&&_, _||_}
 use mathlib.Core.List.{List, [], _∷_, _++_}
 use lib.Dec.{eqb}
 use Rattle.line.specs.Columns.{_⋯_, only}
+use Rattle.line.specs.declared.options.Mode.{Mode}
+use Rattle.line.specs.declared.options.Mode.the-variants.{Crate, WwPdb}
 use Rattle.field.specs.Table.{Entry}
 use Rattle.format.specs.Format.{Sort, FormatField, formatOf}
 use Rattle.format.specs.Format.Sort.{integer, real, text, character}
@@ -79,11 +81,11 @@ pub record Departures : Type 0 where
   pub ours : List FormatField
   pub theirs : List FormatField
 
--- a kind's two differences; a kind with a part that only some lines have is taken with it
-abbrev pub compared : Kind → Departures
-compared k = record {
-  ours = without (fieldsOfTable (tableOf k true)) (formatOf k);
-  theirs = without (formatOf k) (fieldsOfTable (tableOf k true));
+-- a kind's two differences in a mode; a kind with a part that only some lines have is taken with it
+abbrev pub compared : Mode → Kind → Departures
+compared mode k = record {
+  ours = without (fieldsOfTable (tableOf mode k true)) (formatOf k);
+  theirs = without (formatOf k) (fieldsOfTable (tableOf mode k true));
 }
 
 abbrev none : Departures
@@ -93,42 +95,47 @@ none = record { ours = []; theirs = [] }
 abbrev segmentRead : Departures
 segmentRead = record { ours = text at 72 ⋯ 76 ∷ []; theirs = [] }
 
--- the list that docs/DIFFERENCES.md has in words
-abbrev pub departures : Kind → Departures
-departures Empty = none
-departures Header = none
--- the text goes to the line's end
-departures Remark = record { ours = text from 11 ∷ []; theirs = text at 11 ⋯ 79 ∷ [] }
-departures Atom = segmentRead
-departures Hetatm = segmentRead
-departures Anisou = segmentRead
--- Z ends with the line
-departures Cryst1 = record { ours = integer from 66 ∷ []; theirs = integer at 66 ⋯ 70 ∷ [] }
-departures (Scale row) = none
-departures (Origx row) = none
-departures (Mtrix row) = none
--- the serial takes all that follows the name
-departures Model = record { ours = integer from 6 ∷ []; theirs = integer at 10 ⋯ 14 ∷ [] }
-departures Master = none
 -- the chain is a text
-departures Dbref = record { ours = text at 12 ⋯ 13 ∷ []; theirs = character at 12 ⋯ 13 ∷ [] }
--- the same, and the end's number begins a column late
-departures Dbref1 = record {
+abbrev chainRead : Departures
+chainRead = record { ours = text at 12 ⋯ 13 ∷ []; theirs = character at 12 ⋯ 13 ∷ [] }
+
+-- the list that docs/DIFFERENCES.md has in words
+abbrev pub departures : Mode → Kind → Departures
+departures mode Empty = none
+departures mode Header = none
+-- the text goes to the line's end
+departures mode Remark = record { ours = text from 11 ∷ []; theirs = text at 11 ⋯ 79 ∷ [] }
+departures mode Atom = segmentRead
+departures mode Hetatm = segmentRead
+departures mode Anisou = segmentRead
+-- Z ends with the line
+departures mode Cryst1 = record { ours = integer from 66 ∷ []; theirs = integer at 66 ⋯ 70 ∷ [] }
+departures mode (Scale row) = none
+departures mode (Origx row) = none
+departures mode (Mtrix row) = none
+-- in crate mode the serial takes all that follows the name
+departures Crate Model = record { ours = integer from 6 ∷ []; theirs = integer at 10 ⋯ 14 ∷ [] }
+departures WwPdb Model = none
+departures mode Master = none
+departures mode Dbref = chainRead
+-- the same, and in crate mode the end's number begins a column late
+departures Crate Dbref1 = record {
   ours = text at 12 ⋯ 13 ∷ integer at 21 ⋯ 24 ∷ [];
   theirs = character at 12 ⋯ 13 ∷ integer at 20 ⋯ 24 ∷ [];
 }
-departures Dbref2 = record { ours = text at 12 ⋯ 13 ∷ []; theirs = character at 12 ⋯ 13 ∷ [] }
-departures Seqres = none
+departures WwPdb Dbref1 = chainRead
+departures mode Dbref2 = chainRead
+departures mode Seqres = none
 -- the chain is a text, and the comment goes to the line's end
-departures Seqadv = record { ours = text at 16 ⋯ 17 ∷ text from 49 ∷ []; theirs = character at 16 ⋯ 17 ∷ text at 49 ⋯ 70 ∷ [] }
+departures mode Seqadv = record { ours = text at 16 ⋯ 17 ∷ text from 49 ∷ []; theirs = character at 16 ⋯ 17 ∷ text at 49 ⋯ 70 ∷ [] }
 -- the comment goes to the line's end
-departures Modres = record { ours = text from 29 ∷ []; theirs = text at 29 ⋯ 70 ∷ [] }
+departures mode Modres = record { ours = text from 29 ∷ []; theirs = text at 29 ⋯ 70 ∷ [] }
 -- the serial isn't read
-departures Ssbond = record { ours = []; theirs = integer at 7 ⋯ 10 ∷ [] }
-departures Endmdl = none
+departures mode Ssbond = record { ours = []; theirs = integer at 7 ⋯ 10 ∷ [] }
+departures mode Endmdl = none
 -- none is read
-departures Ter = record {
+departures mode Ter = record {
   ours = [];
   theirs = integer at 6 ⋯ 11 ∷ text at 17 ⋯ 20 ∷ character at 21 ⋯ 22 ∷ integer at 22 ⋯ 26 ∷ character at 26 ⋯ 27 ∷ [];
 }
-departures End = none
+departures mode End = none

@@ -12,6 +12,8 @@ use Rattle.line.specs.Bytes.{bytes}
 use Rattle.line.specs.Faults.{numberOf, listed}
 use Rattle.lexitem.specs.declared.answer.Answer.{Answer}
 use Rattle.line.specs.Options.{plain}
+use Rattle.line.specs.declared.options.Mode.{Mode}
+use Rattle.line.specs.declared.options.Mode.the-variants.{Crate, WwPdb}
 use Rattle.line.specs.declared.options.Options.{Options}
 use Rattle.lexitem.specs.declared.answer.Outcome.the-variants.{Accepted}
 use Rattle.line.specs.declared.fault.Fault.{Fault}
@@ -85,15 +87,26 @@ abbrev pub CasesFound : List Case → Type 0
 CasesFound [] = Unit {0}
 CasesFound (c ∷ rest) = ClaimsFound (answerTo c) (c .claims) × CasesFound rest
 
--- all kinds, not loose, every remark number valid
+-- every remark number valid
+abbrev pub reading : Options → List ℕ → List Claim → Case
+reading options line claims =
+    record { line = line; options = options; remarks = replicate 1000 1; claims = claims }
+
+-- all kinds, not loose, in crate mode
 abbrev pub on : List ℕ → List Claim → Case
-on line claims =
-    record { line = line; options = plain; remarks = replicate 1000 1; claims = claims }
+on = reading plain
 
 -- the same, but loose
 abbrev pub onLoose : List ℕ → List Claim → Case
-onLoose line claims =
-    record { line = line; options = record { atoms = false; loose = true }; remarks = replicate 1000 1; claims = claims }
+onLoose = reading (record { atoms = false; loose = true; mode = Crate })
+
+-- the same, but in wwPDB mode
+abbrev pub onStandard : List ℕ → List Claim → Case
+onStandard = reading (record { atoms = false; loose = false; mode = WwPdb })
+
+-- the same, but atoms only, in a mode
+abbrev pub onAtoms : Mode → List ℕ → List Claim → Case
+onAtoms mode = reading (record { atoms = true; loose = false; mode = mode })
 
 -- the same, but no remark number valid
 abbrev pub onUnknown : List ℕ → List Claim → Case
@@ -124,6 +137,10 @@ crystal = cell ++ bytes " P 21 21 21"
 abbrev remark : ℕ → List ℕ
 remark n = bytes "REMARK   2 " ++ replicate n 88 ++ replicate 5 32
 
+-- a DBREF1 whose end is 1234
+abbrev reference : List ℕ
+reference = bytes "DBREF1 2J83 A   61  1234  UNIMES               UPI000148A153"
+
 abbrev pub edges : List Case
 edges =
     -- P1 empty is EMPTY
@@ -131,14 +148,23 @@ edges =
     -- P2 `TE` EMPTY, `TER` TER
     ∷ on (bytes "TE") (is item.Empty ∷ [])
     ∷ on (bytes "TER") (is item.Ter ∷ [])
-    -- P3 `ENDMDL` alone is END; with one blank more, ENDMDL
+    -- P3 `ENDMDL` alone is END; with one blank more, ENDMDL; in wwPDB mode it is ENDMDL either way, and so under atoms only
     ∷ on (bytes "ENDMDL") (is item.End ∷ [])
     ∷ on (bytes "ENDMDL ") (is item.EndModel ∷ [])
-    -- P4 `MODEL ` is EMPTY
+    ∷ onStandard (bytes "ENDMDL") (is item.EndModel ∷ [])
+    ∷ onStandard (bytes "ENDMDL ") (is item.EndModel ∷ [])
+    ∷ onAtoms Crate (bytes "ENDMDL") (is item.End ∷ [])
+    ∷ onAtoms WwPdb (bytes "ENDMDL") (is item.EndModel ∷ [])
+    -- P4 `MODEL ` is EMPTY, in either mode
     ∷ on (bytes "MODEL ") (is item.Empty ∷ [])
+    ∷ onStandard (bytes "MODEL ") (is item.Empty ∷ [])
     -- P5 MODEL 18446744073709551615 is read; ..616 gives 0 and fault 2
     ∷ on (bytes "MODEL 18446744073709551615") (field item.Model (λ m. m .number) 18446744073709551615 ∷ faults [] ∷ [])
     ∷ on (bytes "MODEL 18446744073709551616") (field item.Model (λ m. m .number) 0 ∷ faults (wrong U 6 20 ∷ []) ∷ [])
+    -- in wwPDB mode the serial is in 10..14, and a line shorter than 14 has fault 1 and number 0
+    ∷ onStandard (bytes "MODEL     123") (field item.Model (λ m. m .number) 0 ∷ faults (fault 1 10 4 ∷ []) ∷ [])
+    ∷ onStandard (bytes "MODEL     1234") (field item.Model (λ m. m .number) 1234 ∷ faults [] ∷ [])
+    ∷ onStandard (bytes "MODEL 9999123456789") (field item.Model (λ m. m .number) 1234 ∷ faults [] ∷ [])
     -- P6 `+5` is U 5; `-0` is fault 2 as U and 0 as I
     ∷ on (bytes "MODEL +5") (field item.Model (λ m. m .number) 5 ∷ faults [] ∷ [])
     ∷ on (bytes "MODEL -0") (field item.Model (λ m. m .number) 0 ∷ faults (wrong U 6 2 ∷ []) ∷ [])
@@ -166,7 +192,7 @@ edges =
     -- P11 ATOM of 7 bytes has 14 faults, ANISOU 15
     ∷ on (bytes "ATOM   ") (count 14 ∷ [])
     ∷ on (bytes "ANISOU ") (count 15 ∷ [])
-    -- P12 DBREF1 with `1234` in 20..24 gives 234
-    ∷ on (filled 67 (bytes "DBREF1 2J83 A   61  1234  UNIMES               UPI000148A153"))
-    (field item.Dbref1 (λ d. d .segment .end) (pos 234) ∷ faults [] ∷ [])
+    -- P12 DBREF1 with `1234` in 20..24 gives 234, and in wwPDB mode 1234
+    ∷ on (filled 67 reference) (field item.Dbref1 (λ d. d .segment .end) (pos 234) ∷ faults [] ∷ [])
+    ∷ onStandard (filled 67 reference) (field item.Dbref1 (λ d. d .segment .end) (pos 1234) ∷ faults [] ∷ [])
     ∷ []

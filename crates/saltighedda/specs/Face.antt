@@ -2,20 +2,26 @@
 -- more calls with the same arguments give the refusal's number, place and length, all 0 where there is none."
 use Prim.Native.Nat.{ℕ, _/_, _%_}
 use mathlib.Core.Path.{_≡_}
+use mathlib.Core.Bool.{cond}
 use mathlib.Core.List.{List}
 use lib.ListN.{length}
 use lib.Dec.{eqb}
 use Rattle.lexer.specs.Lexed.{lexed}
 use Rattle.lexer.specs.Refusals.{Input}
+use Rattle.line.specs.declared.options.Mode.{Mode}
+use Rattle.line.specs.declared.options.Mode.the-variants.{Crate, WwPdb}
 use Rattle.line.specs.declared.options.Options.{Options}
 use Rattle.lexitem.specs.declared.answer.Refusal.{Refusal}
 use Rattle.listing.specs.Listed.{measured, listedBytes}
 use Rattle.listing.specs.declared.Listed.{Listed}
 use Rattle.listing.specs.declared.Listed.the-variants.{Written, Refused}
 
--- bit 0 is atoms only and bit 1 is loose; the other bits have no effect
+-- bit 0 is atoms only, bit 1 is loose and bit 2 is wwPDB mode; the other bits have no effect
+unfoldable pub modeOf : ℕ → Mode
+modeOf bits = cond (eqb (bits / 4 % 2) 1) WwPdb Crate
+
 unfoldable pub optionsOf : ℕ → Options
-optionsOf bits = record { atoms = eqb (bits % 2) 1; loose = eqb (bits / 2 % 2) 1 }
+optionsOf bits = record { atoms = eqb (bits % 2) 1; loose = eqb (bits / 2 % 2) 1; mode = modeOf bits }
 
 abbrev pub inputOf : List ℕ → ℕ → ℕ → List ℕ → Input
 inputOf line number bits remarks = record { line = line; number = number; options = optionsOf bits; remarks = remarks }

@@ -9,17 +9,30 @@ pub mod transform;
 pub mod write;
 
 use lexitem::answer::Refusal;
+use line::options::Mode;
 use line::options::Options;
 use listing::Listed;
 use listing::list_line;
 use listing::measure_line;
 
-pub(crate) fn options_of(bits: u32) -> Options
+fn mode_of(bits: u32) -> Mode
+    ensures { λ r. ⌜ r ≡ specs.modeOf bits ⌝ }
+{
+    if bits / 4 % 2 == 1 {
+        return Mode::WwPdb;
+    }
+    Mode::Crate
+}
+
+// The options by their bits.
+pub fn options_of(bits: u32) -> Options
     ensures { λ r. ⌜ r ≡ specs.optionsOf bits ⌝ }
 {
+    let mode = mode_of(bits);
     Options {
         atoms: bits % 2 == 1,
         loose: bits / 2 % 2 == 1,
+        mode,
     }
 }
 

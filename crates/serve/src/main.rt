@@ -27,9 +27,7 @@
 // was left, also behind what was lent. If the line and the table don't fit into their request, or the room is over 4,096, nothing is
 // called: the reply's first word is 2^64-1, and all its other bytes are 0xC5.
 ghost use Prim.Native.Nat.{_+_, _≤_};
-ghost use mathlib.Core.Path.{_≡_};
 ghost use lib.ListN.{length};
-ghost use Rattle.saltighedda.specs.Face.{optionsOf};
 use lexer::lex_line;
 use lexitem::answer::Answer;
 use lexitem::answer::Outcome;
@@ -39,7 +37,7 @@ use libc::STDOUT_FILENO;
 use line::fault::Fault;
 use line::fault::FaultKind;
 use line::fault::Sort;
-use line::options::Options;
+use saltighedda::options_of;
 use saltighedda::saltighedda_list;
 use saltighedda::saltighedda_list_length;
 use saltighedda::saltighedda_list_place;
@@ -147,16 +145,6 @@ fn mark(bytes: &mut [u8]) {
     while i < bytes.len() {
         bytes[i] = MARK;
         i += 1;
-    }
-}
-
-// The options by their bits, as the entries take them.
-fn options_of(bits: u32) -> Options
-    ensures { λ r. ⌜ r ≡ optionsOf bits ⌝ }
-{
-    Options {
-        atoms: bits % 2 == 1,
-        loose: bits / 2 % 2 == 1,
     }
 }
 

@@ -15,11 +15,6 @@ use walker::step;
 use writer::write_as_read;
 use writer::write_record;
 
-const OPTIONS: Options = Options {
-    atoms: false,
-    loose: false,
-};
-
 const NAME: Columns = Columns { start: 12, end: 16 };
 
 fn put(text: &[u8]) {
@@ -74,7 +69,7 @@ fn write_places(item: LexItem, text: &[u8]) {
 // The mark is the byte that the line stands behind, or a blank.
 fn try_line(text: &[u8], mark: u8) {
     let remarks = [1u8; 1000];
-    let answer = lex_line(text, 1, OPTIONS, &remarks);
+    let answer = lex_line(text, 1, Options::PLAIN, &remarks);
     let outcome = answer.outcome;
     match outcome {
         Outcome::Accepted(item) => {

@@ -4,10 +4,11 @@
 --     key-lt            the number of n bytes is below 256 ^ n
 --     bytes-front       the front of a line passes the test
 --     same-key          texts of one length are the same when their numbers are
+--     same-length       texts of other lengths aren't the same
 -- Assumes nothing.
 use Prim.Native.Nat.{ℕ, zero, suc, _+_, _*_, _^_, _≤_, _<_}
-use mathlib.Core.Path.{_≡_, refl, sym, _∙_}
-use mathlib.Core.Bool.{Bool, true, false, _&&_, and-true, and-assoc}
+use mathlib.Core.Path.{_≡_, refl, sym, ap, _∙_}
+use mathlib.Core.Bool.{Bool, true, false, _&&_, and-true, and-false, and-assoc}
 use mathlib.Core.List.{List, [], _∷_}
 use native.Mathlib.Nat.{pow-suc, suc-inj, le-of-suc-le-suc, not-suc-le-zero}
 use native.Mathlib.Omega.{arith}
@@ -77,3 +78,9 @@ key-from-same m n (a ∷ s) (b ∷ t) e p q =
 
 pub same-key : (s t : List ℕ) → length s ≡ length t → T (isBytes s) → T (isBytes t) → same s t ≡ eqb (keyOf s) (keyOf t)
 same-key s t e p q = sym (key-from-same 0 0 s t e p q)
+
+pub same-length : (s t : List ℕ) → (length s ≡ length t → ⊥) → same s t ≡ false
+same-length [] [] n = absurd (n refl)
+same-length [] (b ∷ t) n = refl
+same-length (a ∷ s) [] n = refl
+same-length (a ∷ s) (b ∷ t) n = rw (same-length s t (λ e. n (ap suc e))) (and-false (eqb a b))

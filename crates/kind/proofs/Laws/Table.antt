@@ -3,6 +3,7 @@
 --     names-six        so are those that count, under atoms only or not
 --     kind-by-key      a name is found by its number
 --     kind-by-front    so is the front of a line
+--     same-whole       a whole line is a name when their numbers are the same
 --     key-found        what a `match` finds at a number
 --     none-found       what a `match` leaves to its last arm
 -- Assumes nothing.
@@ -10,13 +11,14 @@ use Prim.Native.Nat.{ℕ, _≤_}
 use mathlib.Core.Path.{_≡_, refl, _∙_}
 use mathlib.Core.Bool.{Bool, true, false, _&&_}
 use mathlib.Core.List.{List, [], _∷_}
+use native.Mathlib.Omega.{arith}
 use lib.Dec.{T, eqb, eqb→eq}
 use lib.ListN.{length, take}
-use lib.Seq.{length-take-le}
+use lib.Seq.{length-take-le, take-all}
 use lib.Ieee.Fits.{and-l, and-r}
 use borrow.Author.Tests.{ne-eqb}
 use Rattle.kind.specs.Key.{keyOf, kindByKey}
-use Rattle.kind.specs.Kind.{Named, namesBy, kindBy}
+use Rattle.kind.specs.Kind.{Named, same, namesBy, kindBy}
 use Rattle.kind.specs.declared.Kind.the-variants.{Empty}
 use Rattle.kind.proofs.Laws.Key.{Bytes, isBytes, bytes-front, same-key}
 
@@ -46,6 +48,13 @@ kind-by-key s w (n ∷ ns) e b t =
 pub kind-by-front : (w : ℕ) (ns : List Named) (l : List ℕ) → Bytes l → w ≤ length l → T (areNames w ns)
     → kindBy (take w l) ns ≡ kindByKey (keyOf (take w l)) ns
 kind-by-front w ns l f h t = kind-by-key (take w l) w ns (length-take-le w l h) (bytes-front w l f) t
+
+pub same-whole : (l name : List ℕ) → Bytes l → length l ≡ length name → T (isBytes name)
+    → same l name ≡ eqb (keyOf (take (length name) l)) (keyOf name)
+same-whole l name f e b =
+    let w = length name in
+    let all = take-all w l (omega arith) in
+    rw all (same-key l name e (rw all at (bytes-front w l f)) b)
 
 pub key-found : {key k : ℕ} (ns : List Named) → key ≡ k → kindByKey k ns ≡ kindByKey key ns
 key-found ns e = rw e refl

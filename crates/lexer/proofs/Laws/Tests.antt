@@ -39,7 +39,7 @@ module _ (i : Input) where
   last-test : firstOf i (drop 6 (tests i)) (accepted i) ≡ answerOf (i .number) (gotItem (kind i) (given i))
   unfolding answerOf faultsOf
   last-test =
-      rw (table-noted (given i) (fieldsBy (kind i) (i .line)) noFaults, count-test (faultsOf (kind i) (given i)))
+      rw (table-noted (given i) (fieldsBy (kind i) (given i)) noFaults, count-test (faultsOf (kind i) (given i)))
       (go (ltb 16 (length (faults i))) refl)
     where
       go : (b : Bool) → ltb 16 (length (faults i)) ≡ b

@@ -1,5 +1,5 @@
 -- What goes kind by kind, all of it by computing.
---     eachTable, by-table     a test that every kind's table passes, with its part and without, is passed by any kind's
+--     eachTable, by-table     a test that every kind's table passes in both modes, with its part and without, is passed by any kind's
 --     Shows, fields-shown     a record's rows are what its kind's table shows, in ascending columns, none forgotten and none added
 --     rows-sixteen            a record has no more than sixteen rows
 --     no-atom                 a record but the one that a `match` names is no atom
@@ -18,9 +18,13 @@ use types.Run.{OneOf, miss}
 use denote.Enum.Declared.{tagOf}
 use Rattle.field.specs.Table.{Entry}
 use Rattle.line.specs.Given.{Given}
+use Rattle.line.specs.declared.options.Mode.{Mode}
+use Rattle.line.specs.declared.options.Mode.the-variants.{Crate, WwPdb}
 use Rattle.crystal.specs.Crystal.{hasZ, crystalTable, cellOf, cellPlacesOf, zOf, crystalFields}
 use Rattle.crystal.specs.Crystal as crystal
+use Rattle.dbref.specs.Dbref.{dbref1Table, dbref1Of, dbref1Fields}
 use Rattle.field.specs.Text.{textWithin}
+use Rattle.model.specs.Model.{modelTable, modelOf, modelFields}
 use Rattle.seqadv.specs.Seqadv.{hasTarget, seqadvTable, seqadvOf, targetOf, seqadvFields}
 use Rattle.seqres.specs.Seqres.{tripleRow}
 use Rattle.ssbond.specs.Ssbond.{hasTail, ssbondTable, ssbondOf, tailOf, tailPlaces, ssbondFields}
@@ -62,55 +66,60 @@ kinds =
     ∷ End
     ∷ []
 
-abbrev tablePasses : (List Entry → Bool) → Kind → Bool
-tablePasses test k = test (tableOf k true) && test (tableOf k false)
+abbrev tablePasses : (List Entry → Bool) → Mode → Kind → Bool
+tablePasses test mode k = test (tableOf mode k true) && test (tableOf mode k false)
 
-abbrev allPass : (List Entry → Bool) → List Kind → Bool
-allPass test [] = true
-allPass test (k ∷ ks) = tablePasses test k && allPass test ks
+abbrev allPass : (List Entry → Bool) → Mode → List Kind → Bool
+allPass test mode [] = true
+allPass test mode (k ∷ ks) = tablePasses test mode k && allPass test mode ks
 
 abbrev pub eachTable : (List Entry → Bool) → Bool
-eachTable test = allPass test kinds
+eachTable test = allPass test Crate kinds && allPass test WwPdb kinds
 
 abbrev kindAt : ℕ → List Kind → Kind
 kindAt place [] = Empty
 kindAt ℕ.zero (k ∷ ks) = k
 kindAt (suc place) (k ∷ ks) = kindAt place ks
 
-module _ (test : List Entry → Bool) where
-  either-part : (k : Kind) → T (tablePasses test k) → (part : Bool) → T (test (tableOf k part))
-  either-part k h true = and-l (test (tableOf k true)) (test (tableOf k false)) h
-  either-part k h false = and-r (test (tableOf k true)) (test (tableOf k false)) h
+module _ (test : List Entry → Bool) (mode : Mode) where
+  either-part : (k : Kind) → T (tablePasses test mode k) → (part : Bool) → T (test (tableOf mode k part))
+  either-part k h true = and-l (test (tableOf mode k true)) (test (tableOf mode k false)) h
+  either-part k h false = and-r (test (tableOf mode k true)) (test (tableOf mode k false)) h
 
-  passes-at : (ks : List Kind) → T (allPass test ks) → (place : ℕ) → place < length ks → (part : Bool)
-      → T (test (tableOf (kindAt place ks) part))
+  passes-at : (ks : List Kind) → T (allPass test mode ks) → (place : ℕ) → place < length ks → (part : Bool)
+      → T (test (tableOf mode (kindAt place ks) part))
   passes-at [] h place p part = absurd (omega arith)
-  passes-at (k ∷ ks) h ℕ.zero p part = either-part k (and-l (tablePasses test k) (allPass test ks) h) part
-  passes-at (k ∷ ks) h (suc place) p part = passes-at ks (and-r (tablePasses test k) (allPass test ks) h) place (le-of-suc-le-suc p) part
+  passes-at (k ∷ ks) h ℕ.zero p part = either-part k (and-l (tablePasses test mode k) (allPass test mode ks) h) part
+  passes-at (k ∷ ks) h (suc place) p part = passes-at ks (and-r (tablePasses test mode k) (allPass test mode ks) h) place (le-of-suc-le-suc p) part
 
-  pub by-table : T (eachTable test) → (k : Kind) (part : Bool) → T (test (tableOf k part))
-  by-table h Empty part = passes-at kinds h 0 (lit< tt) part
-  by-table h Header part = passes-at kinds h 1 (lit< tt) part
-  by-table h Remark part = passes-at kinds h 2 (lit< tt) part
-  by-table h Atom part = passes-at kinds h 3 (lit< tt) part
-  by-table h Hetatm part = passes-at kinds h 4 (lit< tt) part
-  by-table h Anisou part = passes-at kinds h 5 (lit< tt) part
-  by-table h Cryst1 part = passes-at kinds h 6 (lit< tt) part
-  by-table h (Scale row) part = passes-at kinds h 7 (lit< tt) part
-  by-table h (Origx row) part = passes-at kinds h 8 (lit< tt) part
-  by-table h (Mtrix row) part = passes-at kinds h 9 (lit< tt) part
-  by-table h Model part = passes-at kinds h 10 (lit< tt) part
-  by-table h Master part = passes-at kinds h 11 (lit< tt) part
-  by-table h Dbref part = passes-at kinds h 12 (lit< tt) part
-  by-table h Dbref1 part = passes-at kinds h 13 (lit< tt) part
-  by-table h Dbref2 part = passes-at kinds h 14 (lit< tt) part
-  by-table h Seqres part = passes-at kinds h 15 (lit< tt) part
-  by-table h Seqadv part = passes-at kinds h 16 (lit< tt) part
-  by-table h Modres part = passes-at kinds h 17 (lit< tt) part
-  by-table h Ssbond part = passes-at kinds h 18 (lit< tt) part
-  by-table h Endmdl part = passes-at kinds h 19 (lit< tt) part
-  by-table h Ter part = passes-at kinds h 20 (lit< tt) part
-  by-table h End part = passes-at kinds h 21 (lit< tt) part
+  in-mode : T (allPass test mode kinds) → (k : Kind) (part : Bool) → T (test (tableOf mode k part))
+  in-mode h Empty part = passes-at kinds h 0 (lit< tt) part
+  in-mode h Header part = passes-at kinds h 1 (lit< tt) part
+  in-mode h Remark part = passes-at kinds h 2 (lit< tt) part
+  in-mode h Atom part = passes-at kinds h 3 (lit< tt) part
+  in-mode h Hetatm part = passes-at kinds h 4 (lit< tt) part
+  in-mode h Anisou part = passes-at kinds h 5 (lit< tt) part
+  in-mode h Cryst1 part = passes-at kinds h 6 (lit< tt) part
+  in-mode h (Scale row) part = passes-at kinds h 7 (lit< tt) part
+  in-mode h (Origx row) part = passes-at kinds h 8 (lit< tt) part
+  in-mode h (Mtrix row) part = passes-at kinds h 9 (lit< tt) part
+  in-mode h Model part = passes-at kinds h 10 (lit< tt) part
+  in-mode h Master part = passes-at kinds h 11 (lit< tt) part
+  in-mode h Dbref part = passes-at kinds h 12 (lit< tt) part
+  in-mode h Dbref1 part = passes-at kinds h 13 (lit< tt) part
+  in-mode h Dbref2 part = passes-at kinds h 14 (lit< tt) part
+  in-mode h Seqres part = passes-at kinds h 15 (lit< tt) part
+  in-mode h Seqadv part = passes-at kinds h 16 (lit< tt) part
+  in-mode h Modres part = passes-at kinds h 17 (lit< tt) part
+  in-mode h Ssbond part = passes-at kinds h 18 (lit< tt) part
+  in-mode h Endmdl part = passes-at kinds h 19 (lit< tt) part
+  in-mode h Ter part = passes-at kinds h 20 (lit< tt) part
+  in-mode h End part = passes-at kinds h 21 (lit< tt) part
+
+module _ (test : List Entry → Bool) (h : T (eachTable test)) where
+  pub by-table : (mode : Mode) (k : Kind) (part : Bool) → T (test (tableOf mode k part))
+  by-table Crate = in-mode test Crate (and-l (allPass test Crate kinds) (allPass test WwPdb kinds) h)
+  by-table WwPdb = in-mode test WwPdb (and-r (allPass test Crate kinds) (allPass test WwPdb kinds) h)
 
 -- ---- the rows
 abbrev pub Shows : Given → List Entry → List Row → Type 0
@@ -155,7 +164,15 @@ module _ (g : Given) where
   ssbond-shown true = (refl, refl)
   ssbond-shown false = (refl, refl)
 
-  pub fields-shown : (k : Kind) → Shows g (fieldsBy k l) (fieldsOf (itemOf k g))
+  model-shown : (mode : Mode) → Shows g (modelTable mode) (modelFields (modelOf mode l))
+  model-shown Crate = (refl, refl)
+  model-shown WwPdb = (refl, refl)
+
+  dbref1-shown : (mode : Mode) → Shows g (dbref1Table mode) (dbref1Fields (dbref1Of mode l))
+  dbref1-shown Crate = (refl, refl)
+  dbref1-shown WwPdb = (refl, refl)
+
+  pub fields-shown : (k : Kind) → Shows g (fieldsBy k g) (fieldsOf (itemOf k g))
   unfolding tripleRow
   fields-shown Empty = (refl, refl)
   fields-shown Header = (refl, refl)
@@ -167,10 +184,10 @@ module _ (g : Given) where
   fields-shown (Scale row) = (refl, refl)
   fields-shown (Origx row) = (refl, refl)
   fields-shown (Mtrix row) = (refl, refl)
-  fields-shown Model = (refl, refl)
+  fields-shown Model = model-shown (g .options .mode)
   fields-shown Master = (refl, refl)
   fields-shown Dbref = (refl, refl)
-  fields-shown Dbref1 = (refl, refl)
+  fields-shown Dbref1 = dbref1-shown (g .options .mode)
   fields-shown Dbref2 = (refl, refl)
   fields-shown Seqres = (refl, refl)
   fields-shown Seqadv = seqadv-shown (hasTarget l)

@@ -1,5 +1,6 @@
 -- What the definitions give for 01's own example and at their edges, so that no wrong constant in them goes unseen.
---     models     a MODEL with no fault and one with a fault
+--     models     a MODEL with no fault and one with a fault, and one that was read in wwPDB mode
+--     dbref1     a DBREF1 that was read in each mode
 --     scale      a transformation row, its reals as hex digits
 --     modres     a text with bytes that are escaped, an unreached chain, and an insertion code that is absent
 --     seqadv     no residue of the database
@@ -14,7 +15,9 @@ use Rattle.line.specs.Bytes.{bytes}
 use Rattle.line.specs.Text.{withinOf}
 use Rattle.line.specs.declared.fault.FaultKind.the-variants.{Wrong}
 use Rattle.line.specs.declared.fault.Sort.the-variants.{Unsigned}
-use Rattle.lexitem.specs.declared.item.LexItem.the-variants.{Model, Scale, Seqadv, Modres}
+use Rattle.line.specs.declared.options.Mode.{Mode}
+use Rattle.line.specs.declared.options.Mode.the-variants.{Crate, WwPdb}
+use Rattle.lexitem.specs.declared.item.LexItem.the-variants.{Model, Scale, Dbref1, Seqadv, Modres}
 use Rattle.seqadv.specs.declared.record.Target.the-variants.{NoResidue}
 use Rattle.line.specs.declared.text.Character.the-variants.{At, Unreached, Absent}
 use Rattle.line.specs.declared.text.Text.{Text}
@@ -33,12 +36,36 @@ lines (s ∷ t) = bytes s ++ 10 ∷ lines t
 abbrev text : ℕ → ℕ → Text
 text place n = record { place = place; length = n }
 
-pub models : (listingOf 1 (bytes "MODEL        2") (Model (record { number = 2 })) []
+pub models : (listingOf 1 (bytes "MODEL        2") (Model (record { number = 2; mode = Crate })) []
     ≡ lines ("record=MODEL" ∷ "line=1" ∷ "f6=2" ∷ "faults=0" ∷ []))
-    × (listingOf 2 (bytes "MODEL x") (Model (record { number = 0 })) (record { kind = Wrong Unsigned; place = 6; length = 1 } ∷ [])
+    × (listingOf 2 (bytes "MODEL x") (Model (record { number = 0; mode = Crate })) (record { kind = Wrong Unsigned; place = 6; length = 1 } ∷ [])
     ≡ lines ("record=MODEL" ∷ "line=2" ∷ "f6=0" ∷ "faults=1" ∷ "fault=2,6,1" ∷ []))
+    × (listingOf 1 (bytes "MODEL        2") (Model (record { number = 2; mode = WwPdb })) []
+    ≡ lines ("record=MODEL" ∷ "line=1" ∷ "f10=2" ∷ "faults=0" ∷ []))
 unfolding listingOf headRows numberRow threeRow each rowBytes decimal decimalBefore
-models = (refl, refl)
+models = (refl, refl, refl)
+
+-- a DBREF1's listing, and as one writes it with a row for its segment's end
+abbrev referenceBy : Mode → List ℕ
+referenceBy mode =
+    listingOf 4 []
+    (Dbref1
+    (record {
+      code = text 0 0;
+      chain = text 0 0;
+      segment = record { begin = pos 61; opening = Absent; end = pos 322; closing = Absent };
+      database = text 0 0;
+      name = text 0 0;
+      mode = mode;
+    }))
+    []
+
+abbrev referenceWith : String → List ℕ
+referenceWith end = lines ("record=DBREF1" ∷ "line=4" ∷ "f7=" ∷ "f12=" ∷ "f14=61" ∷ end ∷ "f26=" ∷ "f47=" ∷ "faults=0" ∷ [])
+
+pub dbref1 : (referenceBy Crate ≡ referenceWith "f21=322") × (referenceBy WwPdb ≡ referenceWith "f20=322")
+unfolding listingOf headRows numberRow each rowBytes decimal decimalBefore signedDecimal escaped withinOf
+dbref1 = (refl, refl)
 
 pub scale : listingOf 3 []
     (Scale

@@ -42,8 +42,8 @@ use Rattle.listing.proofs.Laws.Table.{tableRoom, shown-room, sorted-roo
 kind-room : (k : Kind) (g : Given) → length (g .line) ≤ 1024 → length (rowsBytes (g .line) (fieldsOf (itemOf k g))) ≤ 3091
 unfolding decimal decimalBefore
 kind-room k g h =
-    let table = fieldsBy k (g .line) in
-    let most = leb→le (tableRoom table) 3091 (by-table (λ t. leb (tableRoom t) 3091) tt k (describe k .part (g .line))) in
+    let table = fieldsBy k g in
+    let most = leb→le (tableRoom table) 3091 (by-table (λ t. leb (tableRoom t) 3091) tt (g .options .mode) k (describe k .part (g .line))) in
     let all = shown-room g table h in
     let rows = sorted (shown g table) in
     let few = rows-room (g .line) rows in

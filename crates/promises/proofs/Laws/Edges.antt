@@ -52,9 +52,17 @@ edges-found =
     -- P3
     & (refl & tt)
     & (refl & tt)
+    & (refl & tt)
+    & (refl & tt)
+    & (refl & tt)
+    & (refl & tt)
     -- P4
     & (refl & tt)
+    & (refl & tt)
     -- P5
+    & ((_, refl, refl) & refl & tt)
+    & ((_, refl, refl) & refl & tt)
+    & ((_, refl, refl) & refl & tt)
     & ((_, refl, refl) & refl & tt)
     & ((_, refl, refl) & refl & tt)
     -- P6
@@ -80,6 +88,7 @@ edges-found =
     & (refl & tt)
     -- P12
     & ((_, refl, refl) & refl & tt)
+    & ((_, refl, refl) & refl & tt)
     & tt
 
 pub defaults-found : CasesFound defaults
@@ -99,13 +108,17 @@ defaults-found =
     & (refl & refl & tt)
     & (refl & refl & tt)
     & ((_, refl, refl) & tt)
-    -- MASTER, SEQRES
+    -- MODEL, MASTER, SEQRES
+    & (refl & refl & tt)
+    & (refl & refl & tt)
     & (refl & refl & tt)
     & (refl & refl & tt)
     & (refl & tt)
     -- DBREF, DBREF1, DBREF2
     & (refl & refl & tt)
     & (refl & refl & tt)
+    & (refl & refl & tt)
+    & (refl & tt)
     & (refl & tt)
     & (refl & refl & tt)
     -- SEQADV, MODRES

@@ -89,7 +89,9 @@ table-most g (e ∷ es) = omega (arith, length-append (faultsBy g e) (tableFault
 pub faults-sixteen : (k : Kind) (g : Given) → length (faultsOf k g) ≤ 16
 unfolding faultsOf
 faults-sixteen k g =
-    let part = describe k .part (g .line) in omega (arith, table-most g (tableOf k part), table-sixteen k part)
+    let mode = g .options .mode in
+    let part = describe k .part (g .line) in
+    omega (arith, table-most g (tableOf mode k part), table-sixteen mode k part)
 
 -- ---- so no line has a 17th fault
 module _ (i : Input) where

@@ -14,9 +14,11 @@ use Rattle.field.specs.Number.{realAt, placesAt, factorAt}
 use Rattle.field.specs.Table.{Entry}
 use Rattle.field.specs.Table.Entry.{u, i, r, t, c, c?, a, u-rest, x, t-within, t-rest, t-end, charge, known, given, unwritten, triples}
 use Rattle.line.specs.Given.{Given}
+use Rattle.line.specs.declared.options.Mode.{Mode}
+use Rattle.line.specs.declared.options.Mode.the-variants.{Crate, WwPdb}
 use Rattle.kind.specs.declared.Kind.{Kind}
 use Rattle.kind.specs.declared.Kind.the-variants.{Empty, Header, Remark, Atom, Hetatm, Anisou, Cryst1, Scale, Origx, Mtrix, Model, Master, Dbref, Dbref1, Dbref2, Seqres, Seqadv, Modres, Ssbond, Endmdl, Ter, End}
-use Rattle.lexitem.specs.Describe.{describe, fieldsBy, fieldsOf, itemOf}
+use Rattle.lexitem.specs.Describe.{describe, tableOf, fieldsBy, fieldsOf, itemOf}
 use Rattle.lexitem.specs.Shown.{shown, shownBy, sorted, ascending, held}
 use Rattle.lexitem.specs.declared.answer.Outcome.the-variants.{Accepted}
 use Rattle.lexitem.specs.declared.item.LexItem.{LexItem}
@@ -35,7 +37,7 @@ use Rattle.promises.specs.Reals.{Form, RealField, realBy, realsBy, count
 use Rattle.promises.proofs.Laws.Reals.{realsIn}
 
 pub record-shown : (n : Input) (item : LexItem) → lexed n .outcome ≡ Accepted item
-    → (held (fieldsOf item) ≡ held (sorted (shown (refusals.given n) (fieldsBy (refusals.kind n) (n .line))))) × (ascending (fieldsOf item) ≡ true)
+    → (held (fieldsOf item) ≡ held (sorted (shown (refusals.given n) (fieldsBy (refusals.kind n) (refusals.given n))))) × (ascending (fieldsOf item) ≡ true)
 record-shown n item accepted =
     let shows = fields-shown (refusals.given n) (refusals.kind n) in
     rw (accepted-item n item accepted) (sym (shows .0), shows .1)
@@ -95,8 +97,12 @@ reals-shown g [] = refl
 reals-shown g (e ∷ es) = entry-shown g e (shown g es) (realsBy g es) (reals-shown g es)
 
 -- ---- the reals of a record
+model-reals : (g : Given) (mode : Mode) → [] ≡ map told (realsBy g (tableOf mode Model false))
+model-reals g Crate = refl
+model-reals g WwPdb = refl
+
 kind-reals : (k : Kind) (g : Given) (part : Bool) → describe k .part (g .line) ≡ part
-    → realsShown (fieldsOf (itemOf k g)) ≡ map told (realsBy g (fieldsBy k (g .line)))
+    → realsShown (fieldsOf (itemOf k g)) ≡ map told (realsBy g (fieldsBy k g))
 unfolding tripleRow
 kind-reals Empty g b e = refl
 kind-reals Header g b e = refl
@@ -109,7 +115,7 @@ kind-reals Cryst1 g false e = rw e refl
 kind-reals (Scale row) g b e = refl
 kind-reals (Origx row) g b e = refl
 kind-reals (Mtrix row) g b e = refl
-kind-reals Model g b e = refl
+kind-reals Model g b e = model-reals g (g .options .mode)
 kind-reals Master g b e = refl
 kind-reals Dbref g b e = refl
 kind-reals Dbref1 g b e = refl

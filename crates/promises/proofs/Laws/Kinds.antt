@@ -1,5 +1,5 @@
 -- What goes kind by kind, all of it by computing.
---     format-departures     the departures from the format that are stated are all there are
+--     format-departures     the departures from the format that are stated are all there are, in each mode
 --     Asks, asks            what a kind asks of its line is what 01's table of refusals says of it
 --     least-asked           and the least lengths are asked for
 --     table-sixteen         no kind has more than sixteen fields
@@ -11,6 +11,8 @@ use mathlib.Core.Bool.{Bool, true}
 use lib.ListN.{length}
 use lib.Dec.{leb, leb→le}
 use lib.Ieee.Bits.{is-true}
+use Rattle.line.specs.declared.options.Mode.{Mode}
+use Rattle.line.specs.declared.options.Mode.the-variants.{Crate, WwPdb}
 use Rattle.kind.specs.declared.Kind.{Kind}
 use Rattle.kind.specs.declared.Kind.the-variants.{Empty, Header, Remark, Atom, Hetatm, Anisou, Cryst1, Scale, Origx, Mtrix, Model, Master, Dbref, Dbref1, Dbref2, Seqres, Seqadv, Modres, Ssbond, Endmdl, Ter, End}
 use Rattle.lexitem.specs.Describe.{boundOf, tableOf}
@@ -21,29 +23,31 @@ use Rattle.promises.specs.Departures.{compared, departures}
 use Rattle.promises.specs.Refusing.{Least}
 use Rattle.promises.proofs.Laws.RealsTable.{clear}
 
-pub format-departures : (k : Kind) → compared k ≡ departures k
-format-departures Empty = refl
-format-departures Header = refl
-format-departures Remark = refl
-format-departures Atom = refl
-format-departures Hetatm = refl
-format-departures Anisou = refl
-format-departures Cryst1 = refl
-format-departures (Scale row) = refl
-format-departures (Origx row) = refl
-format-departures (Mtrix row) = refl
-format-departures Model = refl
-format-departures Master = refl
-format-departures Dbref = refl
-format-departures Dbref1 = refl
-format-departures Dbref2 = refl
-format-departures Seqres = refl
-format-departures Seqadv = refl
-format-departures Modres = refl
-format-departures Ssbond = refl
-format-departures Endmdl = refl
-format-departures Ter = refl
-format-departures End = refl
+pub format-departures : (mode : Mode) (k : Kind) → compared mode k ≡ departures mode k
+format-departures mode Empty = refl
+format-departures mode Header = refl
+format-departures mode Remark = refl
+format-departures mode Atom = refl
+format-departures mode Hetatm = refl
+format-departures mode Anisou = refl
+format-departures mode Cryst1 = refl
+format-departures mode (Scale row) = refl
+format-departures mode (Origx row) = refl
+format-departures mode (Mtrix row) = refl
+format-departures Crate Model = refl
+format-departures WwPdb Model = refl
+format-departures mode Master = refl
+format-departures mode Dbref = refl
+format-departures Crate Dbref1 = refl
+format-departures WwPdb Dbref1 = refl
+format-departures mode Dbref2 = refl
+format-departures mode Seqres = refl
+format-departures mode Seqadv = refl
+format-departures mode Modres = refl
+format-departures mode Ssbond = refl
+format-departures mode Endmdl = refl
+format-departures mode Ter = refl
+format-departures mode End = refl
 
 -- ---- the refusals
 abbrev pub Asks : Kind → Bound → Type 0
@@ -83,8 +87,9 @@ least-asked Least.seqadv = refl
 least-asked Least.ssbond = refl
 
 -- ---- the tables
-pub table-sixteen : (k : Kind) (part : Bool) → length (tableOf k part) ≤ 16
-table-sixteen k part = leb→le (length (tableOf k part)) 16 (by-table (λ table. leb (length table) 16) tt k part)
+pub table-sixteen : (mode : Mode) (k : Kind) (part : Bool) → length (tableOf mode k part) ≤ 16
+table-sixteen mode k part =
+    leb→le (length (tableOf mode k part)) 16 (by-table (λ table. leb (length table) 16) tt mode k part)
 
-pub table-clear : (k : Kind) (part : Bool) → clear (tableOf k part) ≡ true
-table-clear k part = is-true (clear (tableOf k part)) (by-table clear tt k part)
+pub table-clear : (mode : Mode) (k : Kind) (part : Bool) → clear (tableOf mode k part) ≡ true
+table-clear mode k part = is-true (clear (tableOf mode k part)) (by-table clear tt mode k part)

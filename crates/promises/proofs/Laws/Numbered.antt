@@ -14,6 +14,7 @@ use borrow.Author.Tests.{eqb-true, lt-ltb}
 use lib.Dec.{T, eqb, eqb→eq}
 use lib.ListN.{length, take}
 use lib.Ieee.Fits.{and-l, and-r}
+use Rattle.line.specs.declared.options.Mode.{Mode}
 use Rattle.kind.specs.Kind.{Named, names, keptNames, namesBy, same, kindBy, kindOf, rowOf, numberOf}
 use Rattle.kind.specs.Name.{nameAt, keptAt}
 use Rattle.promises.specs.Numbered.{placeNumber}
@@ -45,10 +46,10 @@ numbered : (atoms : Bool) (n : ℕ) → n < length names → numberOf (kindBy (n
 numbered atoms n h =
     let same : 0 + n ≡ n = omega arith in rw same at (numbered-at atoms 0 names (all-numbered atoms) n h)
 
-pub kind-numbered : (atoms : Bool) (l : List ℕ) (n : ℕ) → 6 < length l → n < length names → take 6 l ≡ nameAt n names
-    → numberOf (kindOf atoms l) ≡ placeNumber atoms n
+pub kind-numbered : (atoms : Bool) (mode : Mode) (l : List ℕ) (n : ℕ) → 6 < length l → n < length names → take 6 l ≡ nameAt n names
+    → numberOf (kindOf atoms mode l) ≡ placeNumber atoms n
 unfolding kindOf
-kind-numbered atoms l n long h e = rw (lt-ltb 6 (length l) long, e) (numbered atoms n h)
+kind-numbered atoms mode l n long h e = rw (lt-ltb 6 (length l) long, e) (numbered atoms n h)
 
 -- ---- from the number to the name
 same-text : (s t : List ℕ) → same s t ≡ true → s ≡ t
@@ -102,10 +103,10 @@ place-or-none true n = go (keptAt n names)
     go true = inr refl
     go false = inl refl
 
-pub number-named : (atoms : Bool) (l : List ℕ) → 6 < length l
-    → (numberOf (kindOf atoms l) ≡ 0) ⊎ (take 6 l ≡ nameAt (numberOf (kindOf atoms l)) names)
+pub number-named : (atoms : Bool) (mode : Mode) (l : List ℕ) → 6 < length l
+    → (numberOf (kindOf atoms mode l) ≡ 0) ⊎ (take 6 l ≡ nameAt (numberOf (kindOf atoms mode l)) names)
 unfolding kindOf
-number-named atoms l long = rw (lt-ltb 6 (length l) long) (go (found-in (take 6 l) atoms))
+number-named atoms mode l long = rw (lt-ltb 6 (length l) long) (go (found-in (take 6 l) atoms))
   where
     number : ℕ
     number = numberOf (kindBy (take 6 l) (namesBy atoms))

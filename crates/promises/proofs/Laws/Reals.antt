@@ -37,7 +37,7 @@ use Rattle.promises.proofs.Laws.RealsField.{Told, field-told, written-o
 
 -- the table of a line's fields
 abbrev pub tableIn : Input → List Entry
-tableIn i = fieldsBy (kind i) (i .line)
+tableIn i = fieldsBy (kind i) (given i)
 
 -- its real fields
 abbrev pub realsIn : Input → List RealField
@@ -51,7 +51,7 @@ module _ (i : Input) where
 
     module _ (f : RealField) (of : List·Memᴰ f (realsIn i)) where
       line-look : looked (tableIn i) f ≡ due (i .line) f
-      line-look = clear-looks (given i) (tableIn i) (table-clear (kind i) (describe (kind i) .part (i .line))) f of
+      line-look = clear-looks (given i) (tableIn i) (table-clear (i .options .mode) (kind i) (describe (kind i) .part (i .line))) f of
 
       line-told : (s : Bool) (m p : ℕ) → Written (i .line) f s m p → Told (f .form) s m p (readIn (i .line) f) (f .value)
       line-told = field-told (given i) (tableIn i) f line-look

@@ -28,10 +28,10 @@ use Rattle.lexitem.specs.declared.answer.Outcome.{Outcome}
 use Rattle.lexitem.specs.declared.answer.Outcome.the-variants.{Accepted, Refused}
 use Rattle.lexitem.specs.declared.answer.Refusal.{Refusal}
 use Rattle.lexitem.specs.declared.item.LexItem.{LexItem}
-use Rattle.kind.specs.Kind.{Named, same, namesBy, shortNames, kindBy, kindOf}
+use Rattle.kind.specs.Kind.{Named, same, namesBy, shortNames, kindBy, endsModel, kindOf}
 use Rattle.kind.specs.Name.{keptByAtoms}
 use Rattle.kind.specs.declared.Kind.{Kind}
-use Rattle.kind.specs.declared.Kind.the-variants.{Empty, Header, Remark}
+use Rattle.kind.specs.declared.Kind.the-variants.{Empty, Header, Remark, Endmdl}
 use Rattle.lexitem.specs.Answer.{refusal}
 use Rattle.lexitem.specs.Describe.{itemOf}
 use Rattle.lexer.specs.Lexed.{refused, accepted, firstOf, lexed}
@@ -188,9 +188,11 @@ module _ (i : Input) (only : i .options .atoms ≡ true) where
       let l = i .line in
       let long = names-kept (namesBy true) refl (take 6 l) in
       let short = names-kept shortNames refl (take 3 l) in
+      let ends = endsModel (i .options .mode) l in
+      let other : Kind = cond (ltb 2 (length l)) (kindBy (take 3 l) shortNames) Empty in
       rw only
-      (either-kept (ltb 6 (length l)) (kindBy (take 6 l) (namesBy true)) (cond (ltb 2 (length l)) (kindBy (take 3 l) shortNames) Empty) long
-      (either-kept (ltb 2 (length l)) (kindBy (take 3 l) shortNames) Empty short refl))
+      (either-kept (ltb 6 (length l)) (kindBy (take 6 l) (namesBy true)) (cond ends Endmdl other) long
+      (either-kept ends Endmdl other refl (either-kept (ltb 2 (length l)) (kindBy (take 3 l) shortNames) Empty short refl)))
 
   pub atoms-skip : (k : Kind) → keptByAtoms k ≡ false → kind i ≢ k
   atoms-skip k e h = clash atoms-kept (ap keptByAtoms h ∙ e)

@@ -31,7 +31,7 @@ use Rattle.roundtrip.proofs.Laws.Numbers.{unsigned-in, real-in, factor-
 use Rattle.roundtrip.proofs.Laws.Texts.{within-in}
 use Rattle.roundtrip.proofs.Laws.Marks.{given-in}
 use Rattle.roundtrip.proofs.Laws.Lines.{written-lined}
-use Rattle.roundtrip.proofs.Laws.Fields.{label-back, row-values}
+use Rattle.roundtrip.proofs.Laws.Fields.{label-back, row-values, number-back}
 use Rattle.roundtrip.proofs.Laws.Redrawn.{cellsAgain, cells-again}
 
 -- the sheet with what is read of its cells
@@ -135,8 +135,7 @@ module _ (g : Given) (standIn asked : List ℕ) where
 
     -- ---- MODEL
     model-again : (number : ℕ) → Lined (g .line) (modelSheet number) → Again kinds.Model g standIn name asked (modelSheet number)
-    unfolding cellsFrom
-    model-again number h = rw (rest-in (g .line) 6 4 number 4 66 (h .behind) (h .fit .0) (omega arith) .0) refl
+    model-again number h = rw (number-back h (g .options .mode) .0) refl
 
 -- ---- all of them
 again : {k : Kind} {asked : List ℕ} {s : Sheet} → Writable k asked s → (g : Given) → Lined (g .line) s → (standIn name : List ℕ) → Lent name (s .cells)

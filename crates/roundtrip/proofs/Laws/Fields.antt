@@ -1,6 +1,7 @@
--- The fields that kinds share come back: the ten of a label, and the four of a matrix's row.
+-- The fields that kinds share come back, the ten of a label and the four of a matrix's row, and the number of a model in either mode.
 --     LabelBack, label-back     the ten, which stand in their columns, read back without faults
 --     row-values, row-clear     the same of the four
+--     number-back               the same of a model's number
 -- Assumes nothing.
 use mathlib.Core.Path.{_≡_, refl}
 use Prim.Native.Nat.{ℕ}
@@ -9,6 +10,8 @@ use mathlib.Core.List.{List, []}
 use Rattle.line.specs.Columns.{_⋯_}
 use Rattle.line.specs.Given.{Given}
 use Rattle.line.specs.Text.{viewOf}
+use Rattle.line.specs.declared.options.Mode.{Mode}
+use Rattle.line.specs.declared.options.Mode.the-variants.{Crate, WwPdb}
 use Rattle.line.specs.declared.text.Field.the-variants.{Words, One}
 use Rattle.number.specs.Trim.{trimmed}
 use Rattle.field.specs.Charge.{chargeAt}
@@ -18,13 +21,14 @@ use Rattle.field.specs.Text.{textAt, optionalAt, characterAt}
 use Rattle.atom.specs.Atom.{basicsTable}
 use Rattle.transformation.specs.Transformation.{transformationTable}
 use Rattle.transformation.specs.declared.record.Transformation.{Transformation}
+use Rattle.model.specs.Model.{numberBy, modelTable}
 use Rattle.cell.specs.Places.{placesOf}
 use Rattle.sheet.specs.Ink.{Ink, unsigned, signed, real, charge, left, right}
-use Rattle.sheet.specs.Sheet.{_holds_}
-use Rattle.printer.specs.Sheets.{Label}
+use Rattle.sheet.specs.Sheet.{_holds_, cellsFrom}
+use Rattle.printer.specs.Sheets.{Label, modelSheet}
 use Rattle.roundtrip.specs.Returned.{CleanLabel, doubleBack}
-use Rattle.roundtrip.proofs.Laws.Stand.{Held}
-use Rattle.roundtrip.proofs.Laws.Numbers.{unsigned-in, signed-in, real-in}
+use Rattle.roundtrip.proofs.Laws.Stand.{Held, Lined, lined-held}
+use Rattle.roundtrip.proofs.Laws.Numbers.{unsigned-in, signed-in, real-in, rest-in}
 use Rattle.roundtrip.proofs.Laws.Texts.{text-in, lent-in, optional-in, character-in}
 use Rattle.roundtrip.proofs.Laws.Marks.{charge-in}
 
@@ -94,3 +98,12 @@ module _ {l : List ℕ} {v : Transformation} {p q r s : ℕ} (a : Held l (10 ⋯
         real-in zeroReal c (omega arith) .1,
         real-in zeroReal d (omega arith) .1,
       ) refl)
+
+-- ---- a model's number
+module _ {l : List ℕ} {number : ℕ} (h : Lined l (modelSheet number)) where
+  pub number-back : (mode : Mode)
+      → (numberBy mode l ≡ number) × ((g : Given) → g .line ≡ l → tableFaults g (modelTable mode) ≡ [])
+  unfolding cellsFrom
+  number-back Crate =
+      let e = rest-in l 6 4 number 4 66 (h .behind) (h .fit .0) (omega arith) in (e .0, λ g is. rw (is, e .1) refl)
+  number-back WwPdb = let e = unsigned-in (lined-held h .0) (omega arith) in (e .0, λ g is. rw (is, e .1) refl)

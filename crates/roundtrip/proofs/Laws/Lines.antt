@@ -15,6 +15,7 @@ use mathlib.Core.List.{List, [], _∷_}
 use lib.ListN.{length, take}
 use lib.Dec.{ltb}
 use Rattle.line.specs.Faults.{noFaults}
+use Rattle.line.specs.declared.options.Mode.{Mode}
 use Rattle.number.proofs.Laws.Choice.{and-left}
 use Rattle.kind.specs.Kind.{kindOf, kindBy, namesBy, rowOf}
 use Rattle.kind.specs.Name.{keptByAtoms}
@@ -122,10 +123,10 @@ named endmdl fit false kept = refl
 named end fit true kept = refl
 named end fit false kept = refl
 
-pub written-kind : {k : Kind} {asked : List ℕ} {s : Sheet} → Writable k asked s → Fit (s .cells) → (atoms : Bool) → Keeps atoms k
-    → kindOf atoms (lineOf s) ≡ k
+pub written-kind : {k : Kind} {asked : List ℕ} {s : Sheet} → Writable k asked s → Fit (s .cells) → (atoms : Bool) (mode : Mode) → Keeps atoms k
+    → kindOf atoms mode (lineOf s) ≡ k
 unfolding kindOf
-written-kind {s = s} w fit atoms kept =
+written-kind {s = s} w fit atoms mode kept =
     let wide = written-lined w fit .width in
     rw (lt-ltb 6 (length (lineOf s)) (omega arith)) (named w fit atoms kept)
 

@@ -13,6 +13,9 @@ use lib.Dec.{ltb, lit≤}
 use lib.Ieee.{Float}
 use Rattle.line.specs.Columns.{partOf}
 use Rattle.line.specs.Given.{Given}
+use Rattle.line.specs.declared.options.Mode.{Mode}
+use Rattle.line.specs.declared.options.Mode.the-variants.{Crate, WwPdb}
+use Rattle.model.specs.Model.{modelTable}
 use Rattle.line.specs.declared.columns.Columns.{Columns}
 use Rattle.line.specs.declared.fault.Sort.{Sort}
 use Rattle.line.specs.declared.fault.Sort.the-variants.{Real as RSort}
@@ -114,13 +117,17 @@ module _ (P : Columns → Float → Type 0) where
   among [] e all m = absurd (List·Memᴰ·not-nil m)
   among (f ∷ rest) e all m = ⊎-elim (λ same. rw same (all .0)) (λ m. among rest e (all .1) m) (List·Memᴰ·cases-cons m)
 
-  -- what ATOM and ANISOU share, and CRYST1's Z, are no reals
+  -- what ATOM and ANISOU share, CRYST1's Z and MODEL's number are no reals
   basics-none : Reals P basicsTable
   basics-none = (tt, (tt, (tt, (tt, (tt, (tt, (tt, (tt, (tt, (tt, tt))))))))))
 
   z-none : (b : Bool) → OfReal P (zEntry b)
   z-none true = tt
   z-none false = tt
+
+  model-none : (mode : Mode) → Reals P (modelTable mode)
+  model-none Crate = (tt, tt)
+  model-none WwPdb = (tt, tt)
 
 -- ---- each of them is written in its own columns, with its own count
 module _ (g : Given) (new : List ℕ) where
@@ -141,7 +148,7 @@ module _ (g : Given) (new : List ℕ) where
     unfolding each rowPlaces askedAt
     row-own row (n, (a, (b, (c, (d, none))))) = ((a, lit≤ tt), ((b, lit≤ tt), ((c, lit≤ tt), ((d, lit≤ tt), tt))))
 
-    all-own : (k : Kind) → AllHeld new (asRead k g standIn name .cells) → Reals Own (fieldsBy k (g .line))
+    all-own : (k : Kind) → AllHeld new (asRead k g standIn name .cells) → Reals Own (fieldsBy k g)
     unfolding each rowPlaces askedAt
     all-own kinds.Empty h = absurd (other-fits h)
     all-own kinds.Header h = absurd (other-fits h)
@@ -155,7 +162,7 @@ module _ (g : Given) (new : List ℕ) where
     all-own (kinds.Origx row) h = row-own row h
     all-own (kinds.Mtrix row) (n, (s, (a, (b, (c, (d, behind)))))) =
         (tt, ((a, lit≤ tt), ((b, lit≤ tt), ((c, lit≤ tt), ((d, lit≤ tt), (tt, tt))))))
-    all-own kinds.Model h = (tt, tt)
+    all-own kinds.Model h = model-none Own (g .options .mode)
     all-own kinds.Master h = absurd (other-fits h)
     all-own kinds.Dbref h = absurd (other-fits h)
     all-own kinds.Dbref1 h = absurd (other-fits h)
@@ -170,7 +177,7 @@ module _ (g : Given) (new : List ℕ) where
 
 -- ---- so each says the same, and where its digits don't fit nothing is written
 module _ (k : Kind) (g : Given) (standIn name : List ℕ) (fit : Fit (asRead k g standIn name .cells)) (at : Columns) (default : Float)
-    (m : List·Memᴰ (Entry.r at default) (fieldsBy k (g .line))) where
+    (m : List·Memᴰ (Entry.r at default) (fieldsBy k g)) where
   abbrev line : List ℕ
   line = lineOf (asRead k g standIn name)
 
@@ -179,7 +186,7 @@ module _ (k : Kind) (g : Given) (standIn name : List ℕ) (fit : Fit (asRead k g
       let asked = placesOf (fieldsOf (itemOf k g)) in
       let ascends = item-ascends (g .line) standIn name asked (itemOf k g) in
       let held = lined-held (line-lined (asRead k g standIn name) ascends fit) in
-      among (Own g line) (fieldsBy k (g .line)) (Entry.r at default) (all-own g line standIn name k held) m
+      among (Own g line) (fieldsBy k g) (Entry.r at default) (all-own g line standIn name k held) m
 
   pub written-as-read : realFaults (g .line) at ≡ [] → SaysSame (g .line) line at default
   written-as-read none = field-same (g .line) line at default (own .0) (own .1) none

@@ -1,5 +1,5 @@
 -- "Reading a written line gives no faults and the same integers, signs (not of an ANISOU zero) and texts."
---     written-read     a line that was written is accepted without faults, and its record shows what was written
+--     written-read     in any mode and strictness a line that was written is accepted without faults, and its record shows what was written
 -- Assumes nothing.
 use mathlib.Core.Path.{_≡_, refl}
 use Prim.Native.Nat.{ℕ}
@@ -38,7 +38,7 @@ use Rattle.roundtrip.proofs.Laws.Numbers.{unsigned-in, real-in, factor-
 use Rattle.roundtrip.proofs.Laws.Texts.{within-in}
 use Rattle.roundtrip.proofs.Laws.Marks.{given-in}
 use Rattle.roundtrip.proofs.Laws.Lines.{written-lined, written-low, written-kind, written-asked, clear-accepted}
-use Rattle.roundtrip.proofs.Laws.Fields.{label-back, row-values, row-clear}
+use Rattle.roundtrip.proofs.Laws.Fields.{label-back, row-values, row-clear, number-back}
 
 -- the record of a line has no faults, and shows what was written
 abbrev Comes : Kind → Given → List Cell → Type 0
@@ -155,9 +155,8 @@ module _ (g : Given) (row : ℕ) (v : Transformation) (asked : List ℕ) where
 
 -- ---- MODEL
 model-comes : (g : Given) (number : ℕ) → Lined (g .line) (modelSheet number) → Comes kinds.Model g (modelSheet number .cells)
-unfolding faultsOf cellsFrom
-model-comes g number h =
-    let e = rest-in (g .line) 6 4 number 4 66 (h .behind) (h .fit .0) (omega arith) in (rw (e .1) refl, rw (e .0) refl)
+unfolding faultsOf
+model-comes g number h = let e = number-back h (g .options .mode) in (e .1 g refl, rw (e .0) refl)
 
 -- ---- all of them
 comes : {k : Kind} {asked : List ℕ} {s : Sheet} → Writable k asked s → (g : Given) → Lined (g .line) s → Comes k g (s .cells)
@@ -181,7 +180,7 @@ pub written-read : {k : Kind} {asked : List ℕ} {s : Sheet} → Writable k aske
 written-read {k} {s = s} w fit i e remarks kept =
     let h : Lined (i .line) s = rw e (written-lined w fit) in
     let shown = comes w (given i) h in (
-      clear-accepted i k (rw e (written-kind w fit (i .options .atoms) kept)) (h .width) (rw e (written-low w)) remarks
+      clear-accepted i k (rw e (written-kind w fit (i .options .atoms) (i .options .mode) kept)) (h .width) (rw e (written-low w)) remarks
           (written-asked w (i .line) (h .width) (i .options .loose)) (shown .0),
       rw e (rw e at (shown .1)),
     )

@@ -1,13 +1,17 @@
--- `saltighedda::options_of` meets its contract: its tests are those of the two bits.
+-- `saltighedda::options_of` meets its contract: its tests are those of the first two bits, and the third gives the mode.
 -- Assumes nothing.
 use mathlib.Core.Path.{refl}
+use borrow.Author.Needs.{needs}
 use Rattle.saltighedda.specs.Face.{optionsOf}
 use Rattle.saltighedda.proofs.options_of.Statement.{statement}
 use Rattle.saltighedda.proofs.options_of.Tie as tie
 
+mode-of-requires : tie.Need-mode-of-requires
+mode-of-requires c κs = search needs
+
 returns : tie.Need-returns
 unfolding optionsOf
-returns c = refl
+returns c = rw (c .mode-of .ensures) refl
 
 pub options-of-spec : {M : Type 1} → statement M
-options-of-spec = tie.close (tie.spec returns)
+options-of-spec = tie.close (tie.spec mode-of-requires returns)

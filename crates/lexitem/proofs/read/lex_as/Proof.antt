@@ -6,7 +6,7 @@ use Rattle.crystal.specs.Crystal.{crystalTable, hasZ}
 use Rattle.seqadv.specs.Seqadv.{seqadvTable, hasTarget}
 use Rattle.ssbond.specs.Ssbond.{ssbondTable, hasTail}
 use Rattle.line.specs.Given.{Given}
-use Rattle.lexitem.proofs.Laws.Read.{noted-alone}
+use Rattle.lexitem.proofs.Laws.Read.{noted-alone, model-noted}
 use borrow.Author.Needs.{needs}
 use Rattle.lexitem.proofs.read.lex_as.Statement.{statement}
 use Rattle.lexitem.proofs.read.lex_as.Tie as tie
@@ -231,7 +231,10 @@ returns-10 : tie.Need-returns-10
 returns-10 c = rw (c .before .before .before .kind3 .given .1, c .mtrix .ensures, c .before .lex-mtrix .ensures) refl
 
 returns-11 : tie.Need-returns-11
-returns-11 c = rw (c .before .before .enum-told8 .given .1, c .model .ensures, c .before .lex-model .ensures) refl
+returns-11 c =
+    let a = c .before .before .before .before .before .before .args in
+    let g : Given = record { line = a .line .now; options = a .options; remarks = a .remarks .now } in
+    rw (c .before .before .enum-told8 .given .1, c .model .ensures, c .before .lex-model .ensures, model-noted g (g .options .mode)) refl
 
 returns-12 : tie.Need-returns-12
 returns-12 c = rw (c .before .before .enum-told9 .given .1, c .master .ensures, c .before .lex-master .ensures) refl
