@@ -10,6 +10,8 @@
  */
 #include <saltighedda.h>
 
+#include "draw.h"
+
 #include <inttypes.h>
 #include <stdarg.h>
 #include <stdio.h>
@@ -221,17 +223,6 @@ static const char *const good[] = {
     "CRYST1   52.000   58.600   61.900  90.00  90.00  90.00 P 21 21 21    8          ",
     "MASTER       42    0    3    2    5    0    0    6  404    2   21   11          ",
 };
-
-static uint64_t seed = 330;
-
-static uint64_t random_below(uint64_t n)
-{
-    seed += UINT64_C(0x9E3779B97F4A7C15);
-    uint64_t x = seed;
-    x = (x ^ x >> 30) * UINT64_C(0xBF58476D1CE4E5B9);
-    x = (x ^ x >> 27) * UINT64_C(0x94D049BB133111EB);
-    return (x ^ x >> 31) % n;
-}
 
 static void try_cuts_and_bytes(void)
 {

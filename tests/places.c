@@ -12,6 +12,8 @@
  */
 #include <saltighedda.h>
 
+#include "draw.h"
+
 #include <inttypes.h>
 #include <stdio.h>
 #include <stdlib.h>
@@ -38,13 +40,6 @@ static struct saltighedda_slice text(const char *bytes)
 {
     struct saltighedda_slice slice = {(const uint8_t *)bytes, strlen(bytes)};
     return slice;
-}
-
-static uint64_t bits_of(double x)
-{
-    uint64_t bits;
-    memcpy(&bits, &x, sizeof bits);
-    return bits;
 }
 
 /* ---- The kinds with reals: a line in the format's form, where its reals are, and how it is written. ---- */
@@ -334,21 +329,6 @@ static void try_edges(void)
 }
 
 /* ---- Drawn reals. ---- */
-
-static uint64_t seed;
-
-static uint64_t random_bits(void)
-{
-    uint64_t n = seed += UINT64_C(0x9E3779B97F4A7C15);
-    n = (n ^ n >> 30) * UINT64_C(0xBF58476D1CE4E5B9);
-    n = (n ^ n >> 27) * UINT64_C(0x94D049BB133111EB);
-    return n ^ n >> 31;
-}
-
-static uint64_t random_below(uint64_t end)
-{
-    return random_bits() % end;
-}
 
 /* A byte of a string. */
 static char any_of(const char *bytes)

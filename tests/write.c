@@ -10,6 +10,8 @@
  */
 #include <saltighedda.h>
 
+#include "draw.h"
+
 #include <float.h>
 #include <inttypes.h>
 #include <stdio.h>
@@ -794,35 +796,6 @@ static void spoil_rows(void)
 }
 
 /* ---- Doubles of every sort. ---- */
-
-static uint64_t seed;
-
-static uint64_t random_bits(void)
-{
-    uint64_t n = seed += UINT64_C(0x9E3779B97F4A7C15);
-    n = (n ^ n >> 30) * UINT64_C(0xBF58476D1CE4E5B9);
-    n = (n ^ n >> 27) * UINT64_C(0x94D049BB133111EB);
-    return n ^ n >> 31;
-}
-
-static uint64_t random_below(uint64_t end)
-{
-    return random_bits() % end;
-}
-
-static double of_bits(uint64_t bits)
-{
-    double x;
-    memcpy(&x, &bits, sizeof x);
-    return x;
-}
-
-static uint64_t bits_of(double x)
-{
-    uint64_t bits;
-    memcpy(&bits, &x, sizeof bits);
-    return bits;
-}
 
 static uint64_t ten_to(size_t n)
 {
