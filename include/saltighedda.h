@@ -94,7 +94,7 @@ size_t saltighedda_list_place(const uint8_t *line, size_t line_len, size_t numbe
 size_t saltighedda_list_length(const uint8_t *line, size_t line_len, size_t number, uint32_t options,
                                const uint8_t *remarks, size_t remarks_len, uint8_t *out, size_t out_len);
 
-/* No record has more reals in places of their own than so many. */
+/* An output of so many bytes has room for the places of every record. */
 #define SALTIGHEDDA_PLACES 6
 
 /*

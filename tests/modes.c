@@ -213,7 +213,7 @@ static const char *const good[] = {
     "MODEL        2                                                                  ",
     "MODEL     1234                                                                  ",
     "DBREF1 2J83 A   61  1322  UNIMES               UPI000148A153                    ",
-    "DBREF1 1ABC B -999I-1234J XXXX                 MES00005880000                    ",
+    "DBREF1 1ABC B -999I-1234J UNIMES               MES00005880000                    ",
     "ENDMDL                                                                          ",
     "END                                                                             ",
     "TER      18      ALA A 100                                                      ",

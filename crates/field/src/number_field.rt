@@ -28,8 +28,8 @@ pub struct FineSigned {
     pub fine: bool,
 }
 
-// A real's value and its places, which are 255 where the field isn't fine: two numbers are handed back in registers, and three
-// wouldn't be.
+// A real's value and its places, which are 255 where the field isn't fine, so that no flag is handed back beside them: it would be stored
+// and loaded for each real.
 pub struct FineReal {
     pub value: f64,
     pub places: u8,
