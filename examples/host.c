@@ -44,13 +44,12 @@ static const char *const refusals[] = {
     "HEADER is too short",
     "REMARK is too long",
     "the line is too short for its kind",
-    "too many faults",
-    "the output is too small",
+    [8] = "the output is too small",
 };
 
 static const char *reason(const char *const *reasons, size_t count, size_t number)
 {
-    return number < count ? reasons[number] : "unknown";
+    return number < count && reasons[number] ? reasons[number] : "unknown";
 }
 
 /* What the listing has in its row for the field that begins in a column, or NULL. */

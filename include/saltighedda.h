@@ -80,7 +80,6 @@ size_t saltighedda_list(const uint8_t *line, size_t line_len, size_t number, uin
  *     4  a HEADER line has under 66 bytes
  *     5  a REMARK line has 80 bytes or more without the white space at its end, and SALTIGHEDDA_LOOSE isn't set
  *     6  a CRYST1, MODRES, SEQADV or SSBOND line is too short to be read
- *     7  there are more than 16 faults
  *     8  the listing needs more bytes than `out` has; saltighedda_list_length says how many
  */
 size_t saltighedda_list_refusal(const uint8_t *line, size_t line_len, size_t number, uint32_t options,

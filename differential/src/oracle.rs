@@ -171,11 +171,6 @@ impl Oracle {
                 None => verdict.finding = Some("an error that 01 doesn't have"),
             },
             Reply::Read(item, errors) => {
-                if let Some(error) = errors.get(16) {
-                    let context = error.context;
-                    verdict.refusal = refusal(7, context.place, context.length);
-                    return;
-                }
                 let name = record_name(&item);
                 if name != KINDS[verdict.kind].name {
                     verdict.finding = Some("another kind than 01's");

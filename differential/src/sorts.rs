@@ -9,7 +9,7 @@ const BEHIND: &str = ").";
 const NAMES: [&str; 4] = ["none", "unsigned", "signed", "real"];
 const TYPES: [&str; 4] = ["", "usize", "isize", "f64"];
 
-/// The sorts of at most sixteen faults, two bits each, the first fault the lowest; as crates/serve
+/// The sorts of at most fifteen faults, two bits each, the first fault the lowest; as crates/serve
 /// has them in its reply.
 #[derive(Clone, Copy, Debug, Default, PartialEq, Eq)]
 pub struct Sorts(pub u64);

@@ -109,7 +109,7 @@ impl Tally {
                 for (sum, count) in self.faults.iter_mut().zip(verdict.faults) {
                     *sum += u64::from(count);
                 }
-                for at in 0..16 {
+                for at in 0..15 {
                     self.sorts[verdict.sorts.at(at)] += 1;
                 }
             }

@@ -260,7 +260,8 @@ pub fn lex_atom(line: &[u8], hetero: bool) -> GotAtom
     ensures { λ r. ⌜ r ≡ specs.gotAtom hetero (alone (now (line .entry))) ⌝ }
 {
     if line.len() < Basics::ELEMENT.end as usize {
-        return lex_atom_noted(line, hetero);
+        let noted = lex_atom_noted(line, hetero);
+        return noted;
     }
     let quick = quick_atom(line, hetero);
     if quick.fine {
@@ -270,7 +271,8 @@ pub fn lex_atom(line: &[u8], hetero: bool) -> GotAtom
             faults: Faults::none(),
         };
     }
-    lex_atom_noted(line, hetero)
+    let noted = lex_atom_noted(line, hetero);
+    noted
 }
 
 fn lex_factors(line: &[u8], faults: Faults) -> GotFactors

@@ -1,4 +1,5 @@
 -- The laws of the words in specs/.
 pub mod Fields
 pub mod Fine
+pub mod Few
 pub mod Table

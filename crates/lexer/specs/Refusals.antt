@@ -3,11 +3,10 @@
 use Prim.Native.Nat.{ℕ, suc, _-_}
 use mathlib.Core.Bool.{Bool, false, cond, not, _&&_}
 use mathlib.Core.List.{List, [], _∷_}
-use lib.ListN.{length, getD}
+use lib.ListN.{length}
 use lib.Dec.{ltb, leb, eqb}
 use Rattle.number.specs.Trim.{kept}
 use Rattle.line.specs.Given.{Given}
-use Rattle.line.specs.Faults.{blankFault}
 use Rattle.line.specs.declared.options.Options.{Options}
 use Rattle.lexitem.specs.declared.answer.Refusal.{Refusal}
 use Rattle.line.specs.declared.fault.Fault.{Fault}
@@ -68,10 +67,6 @@ pub record Test : Type 0 where
 abbrev pub test : Bool → ℕ → ℕ → ℕ → Test
 test holds number place length = record { holds = holds; gives = refusal number place length }
 
--- the 17th fault
-abbrev pub seventeenth : List Fault → Fault
-seventeenth fs = getD fs 16 blankFault
-
 abbrev pub tests : Input → List Test
 tests i =
     let l = i .line in
@@ -82,5 +77,4 @@ tests i =
     ∷ test (headerCut b l) 4 11 (length l - 11)
     ∷ test (remarkLong b l (i .options .loose)) 5 80 (length l - 80)
     ∷ test (ltb 0 (missing b l)) 6 (length l) (missing b l)
-    ∷ test (ltb 16 (length (faults i))) 7 (seventeenth (faults i) .place) (seventeenth (faults i) .length)
     ∷ []

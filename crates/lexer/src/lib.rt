@@ -3,10 +3,12 @@ ghost use mathlib.Core.Path.{_≡_};
 ghost use Rattle.lexer.specs.Refusals as specs;
 ghost use Rattle.lexer.specs.Lexed.{lexed};
 ghost use Rattle.lexer.specs.Steps as steps;
+ghost use Rattle.lexitem.specs.Read.{gotItem};
 
 mod bound;
 
 use crate::bound::own_refusal;
+use atom::read::lex_atom;
 use kind::Kind;
 use kind::kind_of;
 use lexitem::answer::Answer;
@@ -70,23 +72,27 @@ fn refuse(line: usize, refusal: Refusal) -> Answer
     }
 }
 
-// A record with its faults, unless there are more than the list holds.
+// A record with its faults, all of which the list holds.
 fn accept(line: usize, got: GotItem) -> Answer
     ensures { λ r. ⌜ r ≡ steps.answerOf line got ⌝ }
 {
     let faults = got.faults;
-    if 16 < faults.count {
-        let over = faults.over;
-        return refuse(
-            line,
-            Refusal::new(7, over.place as usize, over.length as usize),
-        );
-    }
     let item = got.value;
     Answer {
         line,
         outcome: Outcome::Accepted(item),
         faults,
+    }
+}
+
+// Nearly every line of a file is an atom. Apart from the readers of all other kinds, which are large, reading one can stand where it is asked for.
+fn lex_kind(number: usize, kind: Kind, line: &[u8], options: Options, remarks: &[u8]) -> Answer
+    ensures { λ r. ⌜ r ≡ steps.answerOf number (gotItem kind (record { line = now (line .entry); options = options; remarks = now (remarks .entry) })) ⌝ }
+{
+    match kind {
+        Kind::Atom => accept(number, GotItem::atom(lex_atom(line, false))),
+        Kind::Hetatm => accept(number, GotItem::atom(lex_atom(line, true))),
+        _ => accept(number, lex_as(kind, line, options, remarks)),
     }
 }
 
@@ -98,7 +104,7 @@ fn read_as(line: &[u8], number: usize, kind: Kind, options: Options, remarks: &[
     if refusal.number != 0 {
         return refuse(number, refusal);
     }
-    accept(number, lex_as(kind, line, options, remarks))
+    lex_kind(number, kind, line, options, remarks)
 }
 
 // Lexes a line of any bytes. The number is handed through. The remark table has 1,000 bytes, byte n nonzero when

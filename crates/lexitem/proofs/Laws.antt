@@ -1,3 +1,5 @@
--- The laws of the words in specs/. Read is of what readers answer, and Kinds has all that goes kind by kind.
+-- The laws of the words in specs/. Read is of what readers answer, and Kinds has all that goes kind by kind; Few is of how many
+-- faults there can be.
 pub mod Read
 pub mod Kinds
+pub mod Few

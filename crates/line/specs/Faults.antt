@@ -1,10 +1,11 @@
 -- "1 line ends before the field's last column; 2 text of the wrong sort; 3 charge not a digit; 4 charge unsigned; 5 remark number not in the
--- table. Place and length are the field's columns", in "a list of 16 beside the record".
+-- table. Place and length are the field's columns", in a list beside the record; "shrink the list to
+-- fifteen".
 use Prim.Native.Nat.{ℕ, _+_}
 use mathlib.Core.Bool.{cond}
 use mathlib.Core.List.{List, [], _∷_}
 use lib.ListN.{take, set, replicate}
-use lib.Dec.{ltb, eqb}
+use lib.Dec.{ltb}
 use Rattle.line.specs.declared.fault.FaultKind.{FaultKind}
 use Rattle.line.specs.declared.fault.FaultKind.the-variants.{Short, Wrong, NoDigit, NoSign, Unknown}
 use Rattle.line.specs.declared.fault.Fault.{Fault}
@@ -23,14 +24,11 @@ abbrev pub blankFault : Fault
 blankFault = record { kind = Short; place = 0; length = 0 }
 
 unfoldable pub noFaults : Faults
-noFaults = record { list = replicate 16 blankFault; count = 0; over = blankFault }
+noFaults = record { list = replicate 15 blankFault; count = 0 }
 
--- one fault more; the 17th is kept apart, and later ones are not kept
+-- one fault more; a full list stays as it is
 unfoldable pub noted : Faults → Fault → Faults
-noted fs f =
-    cond (ltb (fs .count) 16)
-    (record { list = set (fs .list) (fs .count) f; count = fs .count + 1; over = fs .over })
-    (cond (eqb (fs .count) 16) (record { list = fs .list; count = 17; over = f }) fs)
+noted fs f = cond (ltb (fs .count) 15) (record { list = set (fs .list) (fs .count) f; count = fs .count + 1 }) fs
 
 -- the faults of a list noted one after the other
 abbrev pub allNoted : Faults → List Fault → Faults

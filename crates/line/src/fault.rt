@@ -1,5 +1,4 @@
-// Faults: what could not be read, and where. A list of 16 goes beside the record, by value; the 17th fault is
-// kept apart, so that running over is data and no reader has a branch for it.
+// Faults: what could not be read, and where. A list with room for all that a line can have goes beside the record, by value.
 ghost use mathlib.Core.Path.{_≡_};
 ghost use Rattle.line.specs.Faults.{numberOf, noFaults, noted};
 
@@ -57,39 +56,35 @@ impl Fault {
     }
 }
 
-// The faults noted: the first `count` of the list, in their order. A count of 17 says that one more came, which is `over`.
+// The faults noted: the first `count` of the list, in their order.
 pub struct Faults {
-    pub list: [Fault; 16],
+    pub list: [Fault; Faults::MOST],
     pub count: usize,
-    pub over: Fault,
 }
 
 impl Faults {
+    // No line has more, of any kind and in any mode: that is a law over the kinds' tables, and no reader has a branch for it.
+    pub const MOST: usize = 15;
+
     pub fn none() -> Self
         ensures { λ r. ⌜ r ≡ noFaults ⌝ }
     {
         let blank = Fault::new(FaultKind::Short, 0, 0);
         Faults {
-            list: [blank; 16],
+            list: [blank; Faults::MOST],
             count: 0,
-            over: blank,
         }
     }
 
-    // How a reader puts a fault in: behind the others, or apart if the list is full.
+    // How a reader puts a fault in: behind the others. A list that is full stays as it is.
     pub fn note(self, fault: Fault) -> Self
         ensures { λ r. ⌜ r ≡ noted self fault ⌝ }
     {
         let at = self.count;
         let mut faults = self;
-        if at < 16 {
+        if at < Faults::MOST {
             faults.list[at] = fault;
             faults.count = at + 1;
-            return faults;
-        }
-        if at == 16 {
-            faults.count = 17;
-            faults.over = fault;
             return faults;
         }
         faults

@@ -23,6 +23,7 @@ use lexitem::answer::Refusal;
 use lexitem::item::LexItem;
 use lexitem::item::rows_of;
 use line::fault::Fault;
+use line::fault::Faults;
 use line::options::Options;
 
 // The head of a listing, the record's name being the first so many bytes of a text.
@@ -48,10 +49,10 @@ fn put_listing(
     line: &[u8],
     number: usize,
     item: LexItem,
-    faults: [Fault; 16],
+    faults: [Fault; Faults::MOST],
     count: usize,
 ) -> usize
-    requires { ⌜ count ≤ 16 ⌝ }
+    requires { ⌜ count ≤ 15 ⌝ }
     ensures { λ r. ⌜ page (now (out .exit)) r ≡ put (page (now (out .entry)) at) (specs.listingOf number (now (line .entry)) item (take count faults)) ⌝ }
 {
     let fields = put_name(out, at, item, number);
@@ -73,11 +74,11 @@ fn measure(
     line: &[u8],
     number: usize,
     item: LexItem,
-    faults: [Fault; 16],
+    faults: [Fault; Faults::MOST],
     count: usize,
     room: usize,
 ) -> Listed
-    requires { ⌜ (count ≤ 16) × (length (specs.listingOf number (now line) item (take count faults)) < 2 ^ 64) ⌝ }
+    requires { ⌜ (count ≤ 15) × (length (specs.listingOf number (now line) item (take count faults)) < 2 ^ 64) ⌝ }
     ensures { λ r. ⌜ r ≡ into.fittedAnswer room (specs.listingOf number (now (line .entry)) item (take count faults)) ⌝ }
 {
     let mut one = [0u8; 1];
@@ -93,11 +94,11 @@ fn fit(
     line: &[u8],
     number: usize,
     item: LexItem,
-    faults: [Fault; 16],
+    faults: [Fault; Faults::MOST],
     count: usize,
     out: &mut [u8],
 ) -> Listed
-    requires { ⌜ (count ≤ 16) × (length (specs.listingOf number (now line) item (take count faults)) < 2 ^ 64) ⌝ }
+    requires { ⌜ (count ≤ 15) × (length (specs.listingOf number (now line) item (take count faults)) < 2 ^ 64) ⌝ }
     ensures { λ r. ⌜ into.Fitted (now (out .entry)) (specs.listingOf number (now (line .entry)) item (take count faults)) r (now (out .exit)) ⌝ }
 {
     match measure(line, number, item, faults, count, out.len()) {

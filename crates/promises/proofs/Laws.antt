@@ -9,7 +9,6 @@ pub mod Fields
 pub mod Agreeing
 pub mod Numbered
 pub mod Refusing
-pub mod Few
 pub mod Faults
 pub mod Edges
 pub mod One

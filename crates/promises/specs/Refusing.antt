@@ -4,16 +4,15 @@ use Prim.Native.Nat.{ℕ, _-_, _<_, _≤_}
 use mathlib.Core.Path.{_≡_}
 use mathlib.Core.Logic.{_≢_, _⊎_}
 use mathlib.Core.Bool.{false}
-use mathlib.Core.List.{List, [], _∷_, _++_}
+use mathlib.Core.List.{List, [], _∷_}
 use lib.ListN.{length, getD}
 use Rattle.number.specs.Trim.{endTrimmed}
 use Rattle.lexitem.specs.declared.answer.Outcome.{Outcome}
 use Rattle.lexitem.specs.declared.answer.Outcome.the-variants.{Accepted, Refused}
 use Rattle.lexitem.specs.declared.answer.Refusal.{Refusal}
-use Rattle.line.specs.declared.fault.Fault.{Fault}
 use Rattle.kind.specs.declared.Kind.{Kind}
 use Rattle.kind.specs.declared.Kind.the-variants.{Header, Remark, Cryst1, Seqadv, Modres, Ssbond}
-use Rattle.lexer.specs.Refusals.{Input, kind, faults}
+use Rattle.lexer.specs.Refusals.{Input, kind}
 use Rattle.lexitem.specs.Answer.{refusal}
 
 -- "For an answer that is an enum, a definition gives this paper's number and values for each case": an outcome by its number, place and length;
@@ -69,20 +68,9 @@ abbrev pub leastRule : Input → Rule
 leastRule i r =
     (least : ℕ) × Least (kind i) least × (length (i .line) < least) × (r ≡ refusal 6 (length (i .line)) (least - length (i .line)))
 
--- a fault that sixteen stand before
-pub record Seventeenth (fs : List Fault) (f : Fault) : Type 0 where
-  pub before : List Fault
-  pub behind : List Fault
-  pub sixteen : length before ≡ 16
-  pub whole : fs ≡ before ++ f ∷ behind
-
--- "7: a 17th fault would be noted; that fault's"
-abbrev pub faultRule : Input → Rule
-faultRule i r = (f : Fault) × Seventeenth (faults i) f × (r ≡ refusal 7 (f .place) (f .length))
-
 -- in order of testing
 abbrev pub rules : Input → List Rule
-rules i = tableRule i ∷ lengthRule i ∷ byteRule i ∷ headerRule i ∷ remarkRule i ∷ leastRule i ∷ faultRule i ∷ []
+rules i = tableRule i ∷ lengthRule i ∷ byteRule i ∷ headerRule i ∷ remarkRule i ∷ leastRule i ∷ []
 
 -- the rule doesn't hold
 abbrev pub Silent : Rule → Type 0

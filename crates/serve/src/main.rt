@@ -13,7 +13,7 @@
 //     32  the room                                     32  the sorts of the faults that `lex_line` answered
 //     40  the line, and directly behind it the table   40  4,160 bytes of output
 //
-// A sort is 1 for unsigned, 2 for signed, 3 for real, and 0 for a fault that isn't a 2 or where there is none. There are at most sixteen
+// A sort is 1 for unsigned, 2 for signed, 3 for real, and 0 for a fault that isn't a 2 or where there is none. There are at most fifteen
 // faults, and each has two bits of the word, the first fault the lowest; the upper half of the word is 0.
 //
 // The options are the low 32 bits of their word. If bit 32 is 0 the line is listed, and if it is 1 its record is written, by `write_record`
@@ -36,6 +36,7 @@ use libc::STDIN_FILENO;
 use libc::STDOUT_FILENO;
 use line::fault::Fault;
 use line::fault::FaultKind;
+use line::fault::Faults;
 use line::fault::Sort;
 use saltighedda::options_of;
 use saltighedda::saltighedda_list;
@@ -160,9 +161,9 @@ fn sort_of(kind: FaultKind) -> usize {
 }
 
 // What fills the places without a fault names no sort either, so that nothing has to be counted.
-fn word_of(faults: [Fault; 16]) -> usize {
+fn word_of(faults: [Fault; Faults::MOST]) -> usize {
     let mut n = 0;
-    let mut i = 16;
+    let mut i = Faults::MOST;
     while 0 < i {
         i -= 1;
         let fault = faults[i];

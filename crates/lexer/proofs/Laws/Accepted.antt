@@ -2,9 +2,8 @@
 --     accepted-answer    its answer is the record of its kind with the faults of its kind
 --     accepted-item      so its record is that of its kind
 --     accepted-line      it has at most 1,024 bytes
---     accepted-few       and at most sixteen faults
---     accepted-count     as many are counted
---     accepted-faults    and listed, in their order
+--     accepted-count     its faults are counted
+--     accepted-faults    and listed, in their order: at most fifteen, so that the list holds them all
 -- Assumes nothing.
 use Prim.Native.Nat.{_≤_}
 use mathlib.Core.Path.{_≡_, refl, sym, ap, _∙_}
@@ -21,6 +20,7 @@ use Rattle.lexitem.specs.declared.answer.Outcome.the-variants.{Accepted}
 use Rattle.lexitem.specs.declared.answer.Refusal.{Refusal}
 use Rattle.lexitem.specs.declared.item.LexItem.{LexItem}
 use Rattle.line.proofs.Laws.Faults.{noted-exact, noted-listed}
+use Rattle.lexitem.proofs.Laws.Few.{faults-fifteen}
 
 module _ (i : Input) (x : LexItem) where
   test-failed : (b : Bool) (r : Refusal) (else : Answer) → cond b (refused i r) else .outcome ≡ Accepted x → b ≡ false
@@ -52,14 +52,8 @@ module _ (i : Input) (x : LexItem) where
         ltb-false 1024 (length (i .line))
         (test-failed _ _ (firstOf i (drop 2 (tests i)) (accepted i)) (ap (λ (a : Answer). a .outcome) (sym on) ∙ yes))
 
-    pub accepted-few : length (faults i) ≤ 16
-    unfolding lexed
-    accepted-few =
-        let on = tests-passed (take 6 (tests i)) (firstOf i (drop 6 (tests i)) (accepted i)) yes in
-        ltb-false 16 (length (faults i)) (test-failed _ _ (accepted i) (ap (λ (a : Answer). a .outcome) (sym on) ∙ yes))
-
     pub accepted-count : lexed i .faults .count ≡ length (faults i)
-    accepted-count = rw accepted-answer (noted-exact (faults i) accepted-few)
+    accepted-count = rw accepted-answer (noted-exact (faults i) (faults-fifteen (kind i) (given i)))
 
     pub accepted-faults : listed (lexed i .faults) ≡ faults i
-    accepted-faults = rw accepted-answer (noted-listed (faults i) accepted-few)
+    accepted-faults = rw accepted-answer (noted-listed (faults i) (faults-fifteen (kind i) (given i)))

@@ -1,7 +1,7 @@
 -- The tests for refusals that come of the kind, taken in the code's own steps, give the same answer.
 --     no-third                                 three tests whose third fails
 --     test-1, test-2, test-3, tests-passed     the first three
---     own-tests                                those from 4 to 7, and what is accepted behind them
+--     own-tests                                those from 4 to 6, and what is accepted behind them
 -- Assumes nothing.
 use Prim.Native.Nat.{ℕ, _-_, _<_, _≤_}
 use mathlib.Core.Path.{_≡_, refl, sym, _∙_}
@@ -13,14 +13,13 @@ use lib.ListN.{length, drop}
 use lib.Dec.{ltb, leb, eqb}
 use Rattle.number.specs.Trim.{kept}
 use Rattle.field.proofs.Laws.Table.{table-noted}
-use Rattle.line.specs.Faults.{noFaults, allNoted}
+use Rattle.line.specs.Faults.{noFaults}
 use Rattle.lexitem.specs.declared.answer.Answer.{Answer}
 use Rattle.lexitem.specs.declared.answer.Refusal.{Refusal}
 use Rattle.lexitem.specs.Answer.{refusal}
-use Rattle.line.proofs.Laws.Faults.{count-test, noted-over}
 use Rattle.lexitem.specs.Describe.{boundOf, fieldsBy, faultsOf}
 use Rattle.lexitem.specs.Read.{gotItem}
-use Rattle.lexer.specs.Refusals.{Input, kind, given, plain, faults, headerCut, remarkLong, missing, test, tests, seventeenth}
+use Rattle.lexer.specs.Refusals.{Input, kind, given, plain, headerCut, remarkLong, missing, test, tests}
 use Rattle.lexer.specs.Lexed.{refused, accepted, firstOf, lexed}
 use Rattle.lexer.specs.Steps.{noRefusal, ownRefusal, headerRefusal, remarkRefusal, leastRefusal, refusedWith, answerOf, readAs}
 use Rattle.lexitem.specs.declared.bound.Bound.{Bound}
@@ -35,20 +34,10 @@ missing-test n m = go (ltb m n) refl
     go false e = let h = ltb-false m n e in le-ltb 0 (n - m) (omega arith)
 
 module _ (i : Input) where
-  -- ---- the seventh, on the list as it was noted
-  last-test : firstOf i (drop 6 (tests i)) (accepted i) ≡ answerOf (i .number) (gotItem (kind i) (given i))
-  unfolding answerOf faultsOf
-  last-test =
-      rw (table-noted (given i) (fieldsBy (kind i) (given i)) noFaults, count-test (faultsOf (kind i) (given i)))
-      (go (ltb 16 (length (faults i))) refl)
-    where
-      go : (b : Bool) → ltb 16 (length (faults i)) ≡ b
-          → cond b (refused i (refusal 7 (seventeenth (faults i) .place) (seventeenth (faults i) .length))) (accepted i)
-          ≡ cond b
-          (refusedWith (i .number) (refusal 7 (allNoted noFaults (faults i) .over .place) (allNoted noFaults (faults i) .over .length)))
-          (accepted i)
-      go true e = rw (noted-over (faults i) (ltb-true 16 (length (faults i)) e)) refl
-      go false e = refl
+  -- ---- what is accepted, with its faults as they were noted
+  accepted-got : accepted i ≡ answerOf (i .number) (gotItem (kind i) (given i))
+  unfolding faultsOf
+  accepted-got = rw (table-noted (given i) (fieldsBy (kind i) (given i)) noFaults) refl
 
   -- ---- the tests from 4 to 6, by what the kind asks
   -- a test that may hold, as a refusal whose number is 0 where it doesn't
@@ -78,7 +67,7 @@ module _ (i : Input) where
 
   pub own-tests : firstOf i (drop 3 (tests i)) (accepted i) ≡ readAs (i .number) (kind i) (given i)
   unfolding readAs
-  own-tests = by-bound (boundOf (kind i)) (firstOf i (drop 6 (tests i)) (accepted i)) ∙ rw last-test refl
+  own-tests = by-bound (boundOf (kind i)) (accepted i) ∙ rw accepted-got refl
 
 -- three tests whose third fails
 pub no-third : (a b : Bool) → (a && b) && false ≡ false

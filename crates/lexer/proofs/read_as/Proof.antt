@@ -3,7 +3,7 @@
 use mathlib.Core.Path.{ap, _∙_}
 use borrow.Author.Tests.{eq-eqb, ne-eqb}
 use denote.Ref.{now}
-use Rattle.lexer.specs.Steps.{answerOf, readAs, ownRefusal}
+use Rattle.lexer.specs.Steps.{readAs, ownRefusal}
 use Rattle.lexitem.specs.declared.bound.Bound.{Bound}
 use borrow.Author.Needs.{needs}
 use Rattle.lexer.proofs.read_as.Statement.{statement}
@@ -25,18 +25,15 @@ returns c =
     let o = c .before .before .before .own-refusal .ensures ∙ ap (λ (b : Bound). ownRefusal b (a .line .now) (a .options .loose)) (c .before .before .before .before .bound-of .ensures) in
     rw (← o, ne-eqb _ 0 (c .before .if1 .taken)) (c .refuse .ensures)
 
-lex-as-requires : tie.Need-lex-as-requires
-lex-as-requires c κs = search needs
-
-accept-requires : tie.Need-accept-requires
-accept-requires c κs = search needs
+lex-kind-requires : tie.Need-lex-kind-requires
+lex-kind-requires c κs = search needs
 
 returns-2 : tie.Need-returns-2
 unfolding readAs
 returns-2 c =
-    let a = c .before .before .before .before .before .before .before .before .args in
-    let o = c .before .before .before .before .own-refusal .ensures ∙ ap (λ (b : Bound). ownRefusal b (a .line .now) (a .options .loose)) (c .before .before .before .before .before .bound-of .ensures) in
-    rw (← o, eq-eqb _ 0 (c .before .before .if1 .left)) (c .accept .ensures ∙ ap (answerOf (a .number)) (c .before .lex-as .ensures))
+    let a = c .before .before .before .before .before .before .before .args in
+    let o = c .before .before .before .own-refusal .ensures ∙ ap (λ (b : Bound). ownRefusal b (a .line .now) (a .options .loose)) (c .before .before .before .before .bound-of .ensures) in
+    rw (← o, eq-eqb _ 0 (c .before .if1 .left)) (c .lex-kind .ensures)
 
 pub read-as-spec : {M : Type 1} → statement M
 read-as-spec =
@@ -46,6 +43,5 @@ read-as-spec =
     own-refusal-requires
     refuse-requires
     returns
-    lex-as-requires
-    accept-requires
+    lex-kind-requires
     returns-2)

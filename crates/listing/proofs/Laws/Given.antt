@@ -9,8 +9,9 @@ use mathlib.Core.List.{List}
 use native.Mathlib.Omega.{arith}
 use lib.ListN.{length, take}
 use Rattle.lexer.specs.Lexed.{lexed}
-use Rattle.lexer.specs.Refusals.{Input}
-use Rattle.lexer.proofs.Laws.Accepted.{accepted-count, accepted-few}
+use Rattle.lexer.specs.Refusals.{Input, kind, given}
+use Rattle.lexitem.proofs.Laws.Few.{faults-fifteen}
+use Rattle.lexer.proofs.Laws.Accepted.{accepted-count}
 use Rattle.line.specs.Faults.{listed}
 use Rattle.lexitem.specs.declared.answer.Answer.{Answer}
 use Rattle.lexitem.specs.declared.answer.Outcome.the-variants.{Accepted, Refused}
@@ -26,11 +27,11 @@ module _ (i : Input) (a : Answer) (x : LexItem) (e : a ≡ lexed i) (o : a .outc
   so : lexed i .outcome ≡ Accepted x
   so = ap (λ (b : Answer). b .outcome) (sym e) ∙ o
 
-  pub fit-asks : (a .faults .count ≤ 16) × (length (listingOf (i .number) (i .line) x (take (a .faults .count) (a .faults .list))) < 2 ^ 64)
+  pub fit-asks : (a .faults .count ≤ 15) × (length (listingOf (i .number) (i .line) x (take (a .faults .count) (a .faults .list))) < 2 ^ 64)
   unfolding listed
   fit-asks =
       let count = accepted-count i x so in
-      let few = accepted-few i x so in
+      let few = faults-fifteen (kind i) (given i) in
       let long = listing-longest i x so in
       rw e ((omega arith), (omega arith))
 

@@ -26,6 +26,7 @@ use Rattle.page.specs.Numerals.{decimalBefore, decimal}
 use Rattle.lexitem.specs.Describe.{describe, fieldsBy, itemOf, fieldsOf, kindOfItem}
 use Rattle.lexitem.specs.Shown.{shown, sorted}
 use Rattle.lexitem.proofs.Laws.Kinds.{by-table, fields-shown}
+use Rattle.lexitem.proofs.Laws.Few.{faults-fifteen}
 use Rattle.kind.proofs.Laws.Name.{name-most}
 use Rattle.layout.specs.Each.{each}
 use Rattle.listing.specs.Listed.{listingBy}
@@ -33,7 +34,7 @@ use Rattle.layout.specs.Fault.{faultBytes, faultsBytes}
 use Rattle.layout.specs.Label.{headRows, numberRow, threeRow}
 use Rattle.listing.specs.Listing.{listingOf, longest}
 use Rattle.layout.specs.Row.{rowsBytes}
-use Rattle.lexer.proofs.Laws.Accepted.{accepted-item, accepted-line, accepted-few, accepted-faults}
+use Rattle.lexer.proofs.Laws.Accepted.{accepted-item, accepted-line, accepted-faults}
 use Rattle.listing.proofs.Laws.Room.{decimal-most, rows-room}
 use Rattle.listing.proofs.Laws.Table.{tableRoom, shown-room, sorted-room, rows-held}
 
@@ -81,7 +82,7 @@ unfolding listingOf headRows
 listing-some n l x fs = simp length-append (omega arith)
 
 listing-most : (n : ℕ) (l : List ℕ) (x : LexItem) (fs : List Fault) (room : ℕ) → length (rowsBytes l (fieldsOf x)) ≤ room
-    → length fs ≤ 16 → length (listingOf n l x fs) ≤ room + 868
+    → length fs ≤ 15 → length (listingOf n l x fs) ≤ room + 818
 unfolding listingOf headRows
 listing-most n l x fs room h few =
     let name = name-most (kindOfItem x) in
@@ -93,5 +94,5 @@ listing-most n l x fs room h few =
 pub listing-longest : (i : Input) (x : LexItem) → lexed i .outcome ≡ Accepted x → length (listingBy i x) ≤ longest
 listing-longest i x e =
     let room = kind-room (kind i) (given i) (accepted-line i x e) in
-    let all = listing-most (i .number) (i .line) (itemOf (kind i) (given i)) (listed (lexed i .faults)) 3091 (omega arith) (rw (accepted-faults i x e) (accepted-few i x e)) in
+    let all = listing-most (i .number) (i .line) (itemOf (kind i) (given i)) (listed (lexed i .faults)) 3091 (omega arith) (rw (accepted-faults i x e) (faults-fifteen (kind i) (given i))) in
     rw (accepted-item i x e) (omega arith)

@@ -1,8 +1,7 @@
 -- The rows of the definition, which are tests, agree with the rules of 01's table.
 --     Agrees         a row holds where a rule does, and gives what the rule gives
 --     AllAgree       so the rows and the rules of two lists, one by one
---     fault-row      row 7 agrees with the rule of the 17th fault
---     rules-agree    and all seven agree
+--     rules-agree    the rows and the rules of the table agree
 -- Assumes nothing.
 use Prim.Native.Nat.{ℕ, zero, suc, _-_, _<_, _≤_}
 use mathlib.Core.Path.{_≡_, refl, ap}
@@ -11,23 +10,22 @@ use mathlib.Core.List.{List, [], _∷_}
 use native.Mathlib.Nat.{not-suc-le-zero, le-of-suc-le-suc}
 use native.Mathlib.Omega.{arith}
 use borrow.Author.Tests.{ltb-true, ltb-false, lt-ltb, le-ltb, leb-true, le-leb, eqb-false, ne-eqb, not-true}
-use lib.ListN.{length, take, drop, getD, length-append}
-use lib.Seq.{split-at, getD-at, length-take-le}
+use lib.ListN.{length, getD}
+use lib.Seq.{length-take-le}
 use lib.Dec.{ltb, leb, eqb}
 use Rattle.number.specs.Trim.{kept, endTrimmed}
 use Rattle.number.proofs.Laws.Choice.{and-left, and-right, and-both, clash}
 use Rattle.number.proofs.Laws.Trim.{kept-le}
-use Rattle.line.specs.Faults.{blankFault}
 use Rattle.lexitem.specs.declared.answer.Refusal.{Refusal}
 use Rattle.kind.specs.declared.Kind.{Kind}
 use Rattle.kind.specs.declared.Kind.the-variants.{Header, Remark}
-use Rattle.lexer.specs.Refusals.{Input, Test, kind, given, faults, plain, headerCut, remarkLong, missing, test, tests, seventeenth}
+use Rattle.lexer.specs.Refusals.{Input, Test, kind, plain, headerCut, remarkLong, missing, test, tests}
 use Rattle.lexitem.specs.Describe.{boundOf}
 use Rattle.lexitem.specs.Answer.{refusal}
 use Rattle.lexitem.specs.declared.bound.Bound.{Bound}
 use Rattle.lexitem.specs.declared.bound.Bound.the-variants as bound
 use Rattle.promises.proofs.Laws.Kinds.{Asks, asks, least-asked}
-use Rattle.promises.specs.Refusing.{Rule, FirstHigh, Least, Seventeenth, rules, tableRule, lengthRule, byteRule, headerRule, remarkRule, leastRule, faultRule}
+use Rattle.promises.specs.Refusing.{Rule, FirstHigh, Least, rules, tableRule, lengthRule, byteRule, headerRule, remarkRule, leastRule}
 
 abbrev pub Agrees : Test → Rule → Type 0
 Agrees x rule = (x .holds ≡ true → rule (x .gives)) × ((r : Refusal) → rule r → (x .holds ≡ true) × (r ≡ x .gives))
@@ -167,26 +165,6 @@ module _ (i : Input) where
             rw b (lt-ltb 0 (h .0 - length l) (omega arith), h .3),
       )
 
-  -- ---- row 7
-  pub fault-row : Agrees (test (ltb 16 (length (faults i))) 7 (seventeenth (faults i) .place) (seventeenth (faults i) .length)) (faultRule i)
-  fault-row =
-      let fs = faults i in (
-        λ e.
-            let h = ltb-true 16 (length fs) e in
-            let s : Seventeenth fs (seventeenth fs) = record {
-              before = take 16 fs;
-              behind = drop 17 fs;
-              sixteen = length-take-le 16 fs (omega arith);
-              whole = split-at fs 16 blankFault h;
-            } in
-            (seventeenth fs, s, refl),
-        λ r h.
-            let s = h .1 in
-            let n : 16 < length fs = rw (s .whole, length-append (s .before) (h .0 ∷ s .behind)) (omega arith) in
-            let f : seventeenth fs ≡ h .0 = rw (s .whole) (getD-at (s .before) (h .0) (s .behind) blankFault 16 (s .sixteen)) in
-            (lt-ltb 16 (length fs) n, rw f (h .2)),
-      )
-
   pub rules-agree : AllAgree (tests i) (rules i)
   rules-agree =
-      (table-row i, (length-row i, (byte-row i, (header-row, (remark-row, (least-row, (fault-row, tt)))))))
+      (table-row i, (length-row i, (byte-row i, (header-row, (remark-row, (least-row, tt))))))

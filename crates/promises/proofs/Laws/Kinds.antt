@@ -2,14 +2,11 @@
 --     format-departures     the departures from the format that are stated are all there are, in each mode
 --     Asks, asks            what a kind asks of its line is what 01's table of refusals says of it
 --     least-asked           and the least lengths are asked for
---     table-sixteen         no kind has more than sixteen fields
---     table-clear           and none in which two entries can name one real field's columns
+--     table-clear           no kind has a table in which two entries can name one real field's columns
 -- Assumes nothing.
-use Prim.Native.Nat.{ℕ, _≤_}
+use Prim.Native.Nat.{ℕ}
 use mathlib.Core.Path.{_≡_, refl}
 use mathlib.Core.Bool.{Bool, true}
-use lib.ListN.{length}
-use lib.Dec.{leb, leb→le}
 use lib.Ieee.Bits.{is-true}
 use Rattle.line.specs.declared.options.Mode.{Mode}
 use Rattle.line.specs.declared.options.Mode.the-variants.{Crate, WwPdb}
@@ -87,9 +84,5 @@ least-asked Least.seqadv = refl
 least-asked Least.ssbond = refl
 
 -- ---- the tables
-pub table-sixteen : (mode : Mode) (k : Kind) (part : Bool) → length (tableOf mode k part) ≤ 16
-table-sixteen mode k part =
-    leb→le (length (tableOf mode k part)) 16 (by-table (λ table. leb (length table) 16) tt mode k part)
-
 pub table-clear : (mode : Mode) (k : Kind) (part : Bool) → clear (tableOf mode k part) ≡ true
 table-clear mode k part = is-true (clear (tableOf mode k part)) (by-table clear tt mode k part)

@@ -2,7 +2,7 @@
 --     refused-when          a line is refused with r exactly when the first rule that holds gives r
 --     accepted-exactly      a line is accepted with x exactly when no rule holds, and x is the record of its kind
 --     refused-once          so the rules give a line one refusal at most
---     refusal-numbered      whose number is from 1 to 7
+--     refusal-numbered      whose number is from 1 to 6
 --     zero-accepted         an outcome whose number is 0 is a record
 --     refused-by-number     an outcome has a refusal's number, place and length exactly when the first rule that holds gives them
 --     refusal-empty         a refusal comes with an empty list of faults
@@ -11,7 +11,7 @@
 --     atoms-kept            under atoms only a line is of a kind that atoms only keeps
 --     atoms-skip            and of no other kind
 --     atoms-silent          so the rules of 4, 5 and 6 are silent
---     atoms-refused-when    and a line is refused by the other four
+--     atoms-refused-when    and a line is refused by the other three
 -- Assumes nothing.
 use Prim.Native.Nat.{ℕ, _<_, _≤_}
 use mathlib.Core.Path.{_≡_, refl, sym, ap, _∙_}
@@ -36,7 +36,7 @@ use Rattle.lexitem.specs.Answer.{refusal}
 use Rattle.lexitem.specs.Describe.{itemOf}
 use Rattle.lexer.specs.Lexed.{refused, accepted, firstOf, lexed}
 use Rattle.lexer.specs.Refusals.{Input, Test, kind, given, faults, tests}
-use Rattle.promises.specs.Refusing.{numbersOf, Rule, Least, Silent, First, Passed, rules, tableRule, lengthRule, byteRule, headerRule, remarkRule, leastRule, faultRule}
+use Rattle.promises.specs.Refusing.{numbersOf, Rule, Least, Silent, First, Passed, rules, tableRule, lengthRule, byteRule, headerRule, remarkRule, leastRule}
 use Rattle.promises.proofs.Laws.Agreeing.{AllAgree, rules-agree}
 
 -- ---- the first row that holds is the first rule that does
@@ -121,14 +121,13 @@ module _ (i : Input) where
       let f = refused-when s .1 q in
       cc
 
-  pub refusal-numbered : (r : Refusal) → First (rules i) r → (0 < r .number) × (r .number ≤ 7)
+  pub refusal-numbered : (r : Refusal) → First (rules i) r → (0 < r .number) × (r .number ≤ 6)
   refusal-numbered r =
       ⊎-elim (λ h. of 1 (h .1) refl) (λ p. ⊎-elim (λ h. of 2 (h .1) refl) (λ p. ⊎-elim (λ h. of 3 (h .2) refl) (λ p. ⊎-elim (λ h. of 4 (h .2) refl)
-      (λ p. ⊎-elim (λ h. of 5 (h .4) refl) (λ p. ⊎-elim (λ h. of 6 (h .3) refl) (λ p. ⊎-elim (λ h. of 7 (h .2) refl) (λ p. absurd (p .1)) (p .1)) (p .1))
-      (p .1)) (p .1)) (p .1)) (p .1))
+      (λ p. ⊎-elim (λ h. of 5 (h .4) refl) (λ p. ⊎-elim (λ h. of 6 (h .3) refl) (λ p. absurd (p .1)) (p .1)) (p .1)) (p .1)) (p .1)) (p .1))
     where
-      of : (n : ℕ) {place length : ℕ} → r ≡ refusal n place length → (ltb 0 n && leb n 7) ≡ true → (0 < r .number) × (r .number ≤ 7)
-      of n e w = rw e (ltb-true 0 n (and-left (ltb 0 n) (leb n 7) w), leb-true n 7 (and-right (ltb 0 n) (leb n 7) w))
+      of : (n : ℕ) {place length : ℕ} → r ≡ refusal n place length → (ltb 0 n && leb n 6) ≡ true → (0 < r .number) × (r .number ≤ 6)
+      of n e w = rw e (ltb-true 0 n (and-left (ltb 0 n) (leb n 6) w), leb-true n 6 (and-right (ltb 0 n) (leb n 6) w))
 
   pub zero-accepted : numbersOf (lexed i .outcome) .0 ≡ 0 → (x : LexItem) × (lexed i .outcome ≡ Accepted x)
   zero-accepted = go (lexed i .outcome) refl
@@ -204,15 +203,14 @@ module _ (i : Input) (only : i .options .atoms ≡ true) where
     λ r h. atoms-skip (kind i) (least-skipped (h .1)) refl,
   )
 
-  pub atoms-refused-when : (r : Refusal) → (lexed i .outcome ≡ Refused r) ↔ First (tableRule i ∷ lengthRule i ∷ byteRule i ∷ faultRule i ∷ []) r
+  pub atoms-refused-when : (r : Refusal) → (lexed i .outcome ≡ Refused r) ↔ First (tableRule i ∷ lengthRule i ∷ byteRule i ∷ []) r
   atoms-refused-when r =
-      let last = faultRule i ∷ [] in
-      let own = leastRule i ∷ last in
+      let own = leastRule i ∷ [] in
       let three = byteRule i ∷ headerRule i ∷ remarkRule i ∷ own in
       let none = atoms-silent in
       Iff·trans (refused-when i r)
-      (under-rule (tableRule i) (lengthRule i ∷ three) (lengthRule i ∷ byteRule i ∷ last) r
-      (under-rule (lengthRule i) three (byteRule i ∷ last) r
-      (under-rule (byteRule i) (headerRule i ∷ remarkRule i ∷ own) last r
+      (under-rule (tableRule i) (lengthRule i ∷ three) (lengthRule i ∷ byteRule i ∷ []) r
+      (under-rule (lengthRule i) three (byteRule i ∷ []) r
+      (under-rule (byteRule i) (headerRule i ∷ remarkRule i ∷ own) [] r
       (Iff·trans (past-silent (headerRule i) (remarkRule i ∷ own) r (none .0))
-      (Iff·trans (past-silent (remarkRule i) own r (none .1)) (past-silent (leastRule i) last r (none .2)))))))
+      (Iff·trans (past-silent (remarkRule i) own r (none .1)) (past-silent (leastRule i) [] r (none .2)))))))

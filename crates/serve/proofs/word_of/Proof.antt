@@ -6,7 +6,7 @@ use Rattle.serve.proofs.word_of.Statement.{statement}
 use Rattle.serve.proofs.word_of.Tie as tie
 
 abbrev Inv-loop : tie.InvT-loop
-Inv-loop faults n₀ i₀ n i = i ≤ 16
+Inv-loop faults n₀ i₀ n i = i ≤ 15
 
 abbrev μ-loop : tie.MeasureT-loop
 μ-loop faults n₀ i₀ n i = i

@@ -1,7 +1,7 @@
--- `line::fault::Faults::note` meets its contract: the tests are those of `noted`.
+-- `line::fault::Faults::note` meets its contract: the test is that of `noted`.
 -- Assumes nothing.
 use native.Mathlib.Omega.{arith}
-use borrow.Author.Tests.{lt-ltb, le-ltb, eq-eqb, ne-eqb}
+use borrow.Author.Tests.{lt-ltb, le-ltb}
 use Rattle.line.specs.Faults.{noted}
 use borrow.Author.Needs.{needs}
 use Rattle.line.proofs.fault.Faults.note.Statement.{statement}
@@ -18,16 +18,11 @@ add-faults c = search needs
 
 returns : tie.Need-returns
 unfolding noted
-returns c = simp (lt-ltb (c .before .args .self .count) 16 (omega arith))
+returns c = simp (lt-ltb (c .before .args .self .count) 15 (omega arith))
 
 returns-2 : tie.Need-returns-2
 unfolding noted
-returns-2 c = simp (le-ltb (c .before .before .args .self .count) 16 (omega arith), eq-eqb _ _ (c .if2 .taken))
-
-returns-3 : tie.Need-returns-3
-unfolding noted
-returns-3 c = simp (le-ltb (c .before .before .args .self .count) 16 (omega arith), ne-eqb _ _ (c .if2 .left))
+returns-2 c = simp (le-ltb (c .before .args .self .count) 15 (omega arith))
 
 pub note-spec : {M : Type 1} → statement M
-note-spec =
-    tie.close (tie.spec mul-fault element-set-from-fault add-faults returns returns-2 returns-3)
+note-spec = tie.close (tie.spec mul-fault element-set-from-fault add-faults returns returns-2)
