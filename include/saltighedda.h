@@ -1,6 +1,6 @@
 /*
- * saltighedda.h: a line of a PDB file, listed, with what could not be read and how many decimals were written; a record, written as a
- * line; and a position, moved by the rows of a transformation.
+ * saltighedda.h: a line of a PDB file, listed, with what could not be read and how many decimals were written; its kind alone; a
+ * record, written as a line; and a position, moved by the rows of a transformation.
  *
  * Every entry takes any bytes and any numbers; nothing has to be checked beforehand. A host has one duty: a buffer is a pointer
  * and the number of bytes that are there, the output's bytes are in no other buffer of the call, and nobody else writes to them
@@ -92,6 +92,37 @@ size_t saltighedda_list_place(const uint8_t *line, size_t line_len, size_t numbe
 /* How many columns it is about; for refusal 8, the bytes needed. Returns 0 if there is no refusal. */
 size_t saltighedda_list_length(const uint8_t *line, size_t line_len, size_t number, uint32_t options,
                                const uint8_t *remarks, size_t remarks_len, uint8_t *out, size_t out_len);
+
+/*
+ * Which kind a line is, without reading it: a number from 0 to 27, or refusal 2 or 3 as one number, which is 2^48 or more;
+ * SALTIGHEDDA_REFUSAL, _PLACE and _LENGTH take that apart. No other refusal is given here, so a line with a kind may still be
+ * refused when it is listed. Of a line over 1,024 bytes the length says how many there are too many, up to 2^32 - 1.
+ */
+uint64_t saltighedda_kind(const uint8_t *line, size_t line_len, uint32_t options);
+
+/* The kinds by their numbers. */
+enum {
+    SALTIGHEDDA_EMPTY = 0, SALTIGHEDDA_HEADER = 1, SALTIGHEDDA_REMARK = 2, SALTIGHEDDA_ATOM = 3,
+    SALTIGHEDDA_HETATM = 4, SALTIGHEDDA_ANISOU = 5, SALTIGHEDDA_CRYST1 = 6, SALTIGHEDDA_SCALE1 = 7,
+    SALTIGHEDDA_SCALE2 = 8, SALTIGHEDDA_SCALE3 = 9, SALTIGHEDDA_ORIGX1 = 10, SALTIGHEDDA_ORIGX2 = 11,
+    SALTIGHEDDA_ORIGX3 = 12, SALTIGHEDDA_MTRIX1 = 13, SALTIGHEDDA_MTRIX2 = 14, SALTIGHEDDA_MTRIX3 = 15,
+    SALTIGHEDDA_MODEL = 16, SALTIGHEDDA_MASTER = 17, SALTIGHEDDA_DBREF = 18, SALTIGHEDDA_DBREF1 = 19,
+    SALTIGHEDDA_DBREF2 = 20, SALTIGHEDDA_SEQRES = 21, SALTIGHEDDA_SEQADV = 22, SALTIGHEDDA_MODRES = 23,
+    SALTIGHEDDA_SSBOND = 24, SALTIGHEDDA_ENDMDL = 25, SALTIGHEDDA_TER = 26, SALTIGHEDDA_END = 27,
+    SALTIGHEDDA_KINDS = 28
+};
+
+/* The name of a kind as a listing has it, and NULL for any other number, a refusal too. */
+static inline const char *saltighedda_kind_name(uint64_t kind)
+{
+    static const char *const names[SALTIGHEDDA_KINDS] = {
+        "EMPTY", "HEADER", "REMARK", "ATOM", "HETATM", "ANISOU", "CRYST1",
+        "SCALE1", "SCALE2", "SCALE3", "ORIGX1", "ORIGX2", "ORIGX3", "MTRIX1",
+        "MTRIX2", "MTRIX3", "MODEL", "MASTER", "DBREF", "DBREF1", "DBREF2",
+        "SEQRES", "SEQADV", "MODRES", "SSBOND", "ENDMDL", "TER", "END",
+    };
+    return kind < SALTIGHEDDA_KINDS ? names[kind] : NULL;
+}
 
 /* An output of so many bytes has room for the places of every record. */
 #define SALTIGHEDDA_PLACES 6

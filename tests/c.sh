@@ -1,5 +1,5 @@
 #!/bin/bash
-# The C face from C: the edges of its entries, what is written beside what printf writes, what is moved beside C's own doubles, how many
+# The C face from C: the edges of its entries, the kinds of drawn lines beside the rule, what is written beside what printf writes, what is moved beside C's own doubles, how many
 # decimals were read beside how many were drawn, the example hosts on the sample file and on made ones, and an installation as a C
 # programmer uses it. All is compiled for x86-64, as the library is. Wants target/staticlib/libsaltighedda.a and
 # target/bin/pdblist. Prints a line for each thing that holds; the status is 1 if one doesn't.
@@ -219,9 +219,62 @@ lost() {
     echo "other.pdb:20: columns 11 to 14: the number doesn't fit as it was written; $as_it_is"
 } > "$folder/other.pdb.said"
 
+# indexed FILE COMMAND..: the host that counts a file's lines by their kinds; what it prints.
+indexed() {
+    local file=$1
+    shift
+    (cd "$folder" && "$@" "$file") > "$folder/counted" || fail "the indexing host's status isn't 0: $*"
+    diff -u "$folder/$file.index" "$folder/counted" >&2 || fail "the indexing host printed something else: $*"
+}
+
+cat > "$folder/zinc.pdb.index" << 'end'
+HEADER         1  first in line 1
+REMARK         2  first in line 2
+ATOM          16  first in line 12
+HETATM         1  first in line 30
+ANISOU         1  first in line 28
+CRYST1         1  first in line 5
+SCALE1         1  first in line 9
+SCALE2         1  first in line 10
+SCALE3         1  first in line 11
+ORIGX1         1  first in line 6
+ORIGX2         1  first in line 7
+ORIGX3         1  first in line 8
+SEQRES         1  first in line 4
+TER            1  first in line 29
+end
+
+# Lines that are refused for their bytes are told apart, and those that only reading refuses have their kind. A six-byte ENDMDL ends a model in
+# wwPDB mode alone.
+printf 'CRYST1 \nENDMDL\r\n\nCONECT    1\nATOM\302\265\nATOM  \nTERX\nATOM   \nENDMDL\nHEADER \n%1025s\nEND' '' > "$folder/kinds.pdb"
+cp "$folder/kinds.pdb" "$folder/standard.pdb"
+cat > "$folder/kinds.pdb.index" << 'end'
+EMPTY          3  first in line 3
+HEADER         1  first in line 10
+ATOM           1  first in line 8
+CRYST1         1  first in line 1
+TER            1  first in line 7
+END            3  first in line 2
+refused        2  first in line 5
+end
+cat > "$folder/standard.pdb.index" << 'end'
+EMPTY          3  first in line 3
+HEADER         1  first in line 10
+ATOM           1  first in line 8
+CRYST1         1  first in line 1
+ENDMDL         2  first in line 2
+TER            1  first in line 7
+END            1  first in line 12
+refused        2  first in line 5
+end
+
 $CC $warned -Iinclude -o "$folder/face" tests/face.c target/staticlib/libsaltighedda.a
 "$run" "$folder/face" || fail "an entry isn't as the header says"
 echo "c: the entries are as the header says"
+
+$CC $warned -Iinclude -o "$folder/kind" tests/kind.c target/staticlib/libsaltighedda.a
+"$run" "$folder/kind" || fail "a line's kind isn't as the header says"
+echo "c: drawn lines have the kinds that the rule gives them, and their listings the same names"
 
 $CC $warned -Iinclude -o "$folder/modes" tests/modes.c target/staticlib/libsaltighedda.a
 "$run" "$folder/modes" || fail "a line isn't read in wwPDB mode as the header says"
@@ -278,6 +331,12 @@ status=0
 [ $status = 2 ] && grep -q '^rewrite: ' "$folder/why" || fail "the rewriting host doesn't say that it can't write"
 echo "c: the rewriting host gives a file back byte for byte, and tells which lines it couldn't write"
 
+$CC $warned -Iinclude -o "$folder/index" examples/index.c target/staticlib/libsaltighedda.a
+indexed zinc.pdb "$run" "$folder/index"
+indexed kinds.pdb "$run" "$folder/index"
+indexed standard.pdb "$run" "$folder/index" --wwpdb
+echo "c: the indexing host counts a file's lines by their kinds"
+
 if why=$(missing valgrind); then
     echo "c: left out: $why"
 else
@@ -293,6 +352,8 @@ else
     $memory "$folder/places" 5000 || fail "valgrind found a fault in the use of memory"
     rewritten same.pdb 0 $memory "$folder/rewrite"
     rewritten other.pdb 1 $memory "$folder/rewrite"
+    $memory "$folder/kind" 5000 || fail "valgrind found a fault in the use of memory"
+    indexed kinds.pdb $memory "$folder/index"
     echo "c: and so under valgrind"
 fi
 

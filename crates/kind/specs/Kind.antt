@@ -64,9 +64,13 @@ names =
     ∷ kept "END   " End
     ∷ []
 
--- the rows are 0, 1 and 2; any other counts as the last
-unfoldable pub rowOf : ℕ → ℕ
-rowOf row = cond (eqb row 0) 0 (cond (eqb row 1) 1 2)
+-- no kind's number, and no name's place
+abbrev pub noKind : ℕ
+noKind = 255
+
+-- rows are 0, 1 and 2, numbered from their family's first on; any other is no kind of a line
+unfoldable pub rowPlace : ℕ → ℕ → ℕ
+rowPlace first row = cond (eqb row 0) first (cond (eqb row 1) (first + 1) (cond (eqb row 2) (first + 2) noKind))
 
 -- a kind by its number, which is its name's place
 abbrev pub numberOf : Kind → ℕ
@@ -77,9 +81,9 @@ numberOf Atom = 3
 numberOf Hetatm = 4
 numberOf Anisou = 5
 numberOf Cryst1 = 6
-numberOf (Scale row) = 7 + rowOf row
-numberOf (Origx row) = 10 + rowOf row
-numberOf (Mtrix row) = 13 + rowOf row
+numberOf (Scale row) = rowPlace 7 row
+numberOf (Origx row) = rowPlace 10 row
+numberOf (Mtrix row) = rowPlace 13 row
 numberOf Model = 16
 numberOf Master = 17
 numberOf Dbref = 18

@@ -35,6 +35,6 @@ nameOf k = word (nameAt (numberOf k) names)
 abbrev pub sixOf : List ℕ → Name
 sixOf t = record { text = take 6 (t ++ bytes "      "); length = length t }
 
--- a row's name among three
+-- a row's name among three, and none for any other
 abbrev pub rowName : ℕ → Name → Name → Name → Name
-rowName row first second third = cond (eqb row 0) first (cond (eqb row 1) second third)
+rowName row first second third = cond (eqb row 0) first (cond (eqb row 1) second (cond (eqb row 2) third (sixOf [])))

@@ -7,6 +7,7 @@ ghost use Rattle.kind.specs.Kind as specs;
 use line::options::Mode;
 
 pub mod name;
+pub mod numbered;
 
 // SCALEn, ORIGXn and MTRIXn carry their row, n less one.
 pub enum Kind {

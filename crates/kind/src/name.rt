@@ -150,7 +150,13 @@ impl Name {
         length: 3,
     };
 
-    // The name of a row, and the third for any above.
+    // No name: what a row above 2 has.
+    pub const NONE: Name = Name {
+        text: *b"      ",
+        length: 0,
+    };
+
+    // The name of a row among three.
     fn of_row(row: usize, first: Name, second: Name, third: Name) -> Self
         ensures { λ r. ⌜ r ≡ rowName row first second third ⌝ }
     {
@@ -160,7 +166,10 @@ impl Name {
         if row == 1 {
             return second;
         }
-        third
+        if row == 2 {
+            return third;
+        }
+        Name::NONE
     }
 }
 

@@ -1,8 +1,9 @@
 -- "Refusals by number, in order of testing": a test says when a refusal is given and with which place and length, and the first that holds is
--- the answer.
+-- the answer. "Split the reading entry in two: one that says the kind of a line under given options, and one that reads a line as its kind." One
+-- list serves all three entries; what is asked decides which of its tests can hold.
 use Prim.Native.Nat.{ℕ, suc, _-_}
-use mathlib.Core.Bool.{Bool, false, cond, not, _&&_}
-use mathlib.Core.List.{List, [], _∷_}
+use mathlib.Core.Bool.{Bool, true, false, cond, not, _&&_}
+use mathlib.Core.List.{List, [], _∷_, _++_}
 use lib.ListN.{length}
 use lib.Dec.{ltb, leb, eqb}
 use Rattle.number.specs.Trim.{kept}
@@ -10,7 +11,7 @@ use Rattle.line.specs.Given.{Given}
 use Rattle.line.specs.declared.options.Options.{Options}
 use Rattle.lexitem.specs.declared.answer.Refusal.{Refusal}
 use Rattle.line.specs.declared.fault.Fault.{Fault}
-use Rattle.kind.specs.Kind.{kindOf}
+use Rattle.kind.specs.Kind.{kindOf, numberOf}
 use Rattle.lexitem.specs.Answer.{refusal}
 use Rattle.lexitem.specs.Describe.{boundOf, faultsOf}
 use Rattle.lexitem.specs.declared.bound.Bound.{Bound}
@@ -32,6 +33,24 @@ given i = record { line = i .line; options = i .options; remarks = i .remarks }
 
 abbrev pub faults : Input → List Fault
 faults i = faultsOf (kind i) (given i)
+
+-- what is asked of a line: its kind alone, its record, or its record as that of a kind
+pub data Asking : Type 0 where
+  itsKind : Asking
+  itsRecord : Asking
+  recordAs : Kind → Asking
+
+-- "the first gives refusals 2 and 3 only": the others are for who asks for a record
+abbrev pub reads : Asking → Bool
+reads itsKind = false
+reads itsRecord = true
+reads (recordAs k) = true
+
+-- "a new 15 (0, 0) exactly when the kind handed to it isn't the one the first gives"; a kind with a row above 2 has a number that no line's kind has
+abbrev pub another : Asking → Kind → Bool
+another itsKind j = false
+another itsRecord j = false
+another (recordAs k) j = not (eqb (numberOf k) (numberOf j))
 
 -- how many bytes stand before the first of 128 or more
 unfoldable pub plain : List ℕ → ℕ
@@ -67,14 +86,25 @@ pub record Test : Type 0 where
 abbrev pub test : Bool → ℕ → ℕ → ℕ → Test
 test holds number place length = record { holds = holds; gives = refusal number place length }
 
-abbrev pub tests : Input → List Test
-tests i =
-    let l = i .line in
-    let b = boundOf (kind i) in
-    test (not (eqb (length (i .remarks)) 1000)) 1 0 0
-    ∷ test (ltb 1024 (length l)) 2 1024 (length l - 1024)
+abbrev pub tableTest : Asking → List ℕ → Test
+tableTest a remarks = test (reads a && not (eqb (length remarks) 1000)) 1 0 0
+
+-- of the line's bytes alone
+abbrev pub lineTests : List ℕ → List Test
+lineTests l =
+    test (ltb 1024 (length l)) 2 1024 (length l - 1024)
     ∷ test (ltb (plain l) (length l)) 3 (plain l) 1
-    ∷ test (headerCut b l) 4 11 (length l - 11)
-    ∷ test (remarkLong b l (i .options .loose)) 5 80 (length l - 80)
-    ∷ test (ltb 0 (missing b l)) 6 (length l) (missing b l)
     ∷ []
+
+-- of what a kind asks of its line
+abbrev pub ownTests : Asking → Bound → List ℕ → Bool → List Test
+ownTests a b l loose =
+    test (reads a && headerCut b l) 4 11 (length l - 11)
+    ∷ test (reads a && remarkLong b l loose) 5 80 (length l - 80)
+    ∷ test (reads a && ltb 0 (missing b l)) 6 (length l) (missing b l)
+    ∷ []
+
+abbrev pub tests : Asking → Input → List Test
+tests a i =
+    (tableTest a (i .remarks) ∷ lineTests (i .line))
+    ++ (test (another a (kind i)) 15 0 0 ∷ ownTests a (boundOf (kind i)) (i .line) (i .options .loose))

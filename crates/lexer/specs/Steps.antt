@@ -1,4 +1,5 @@
--- The words of the helpers, which take the refusals in the code's own steps. No rule of 01 is here: `lex_line` is proved to answer `lexed`.
+-- The words of the helpers, which take the refusals in the code's own steps. No rule of 01 is here: `lex_line` is proved to answer `lexed`, and so
+-- for the other entries.
 use Prim.Native.Nat.{ℕ, _-_}
 use mathlib.Core.Bool.{Bool, cond, not, _&&_}
 use mathlib.Core.List.{List, [], _∷_}
@@ -17,6 +18,9 @@ use Rattle.lexitem.specs.Read.{gotItem}
 use Rattle.lexitem.specs.declared.bound.Bound.{Bound}
 use Rattle.lexitem.specs.declared.bound.Bound.the-variants as bound
 use Rattle.lexitem.specs.declared.read.GotItem.{GotItem}
+use Rattle.lexer.specs.Refusals.{Test, tableTest, lineTests}
+use Rattle.lexer.specs.Refusals.Asking.{itsRecord}
+use Rattle.lexer.specs.Lexed.{firstOf}
 
 -- the highest of m and a list's bytes
 unfoldable pub highest : ℕ → List ℕ → ℕ
@@ -26,6 +30,14 @@ highest m (b ∷ t) = highest (cond (ltb m b) b m) t
 -- a number of 0 says that there is none
 abbrev pub noRefusal : Refusal
 noRefusal = refusal 0 0 0
+
+-- the first of some tests that holds
+abbrev pub firstRefusal : List Test → Refusal
+firstRefusal ts = firstOf (λ r. r) ts noRefusal
+
+-- what is tested before the kind, for who asks for a record
+abbrev pub entryTests : List ℕ → List ℕ → List Test
+entryTests l remarks = tableTest itsRecord remarks ∷ lineTests l
 
 unfoldable pub headerRefusal : List ℕ → Refusal
 headerRefusal l = cond (ltb (length l) 66) (refusal 4 11 (length l - 11)) noRefusal

@@ -1,7 +1,8 @@
-// `lex_line`: a line's refusals in document 01's order of testing, or its record and its faults.
+// What is asked of a line: `kind_line` its kind, `lex_line` its record and its faults, `read_line_as` the same as one of a kind. A line's refusals
+// come in document 01's order of testing.
 ghost use mathlib.Core.Path.{_≡_};
 ghost use Rattle.lexer.specs.Refusals as specs;
-ghost use Rattle.lexer.specs.Lexed.{lexed};
+ghost use Rattle.lexer.specs.Lexed.{lexed, lexedAs, kindAsked};
 ghost use Rattle.lexer.specs.Steps as steps;
 ghost use Rattle.lexitem.specs.Read.{gotItem};
 
@@ -11,6 +12,7 @@ use crate::bound::own_refusal;
 use atom::read::lex_atom;
 use kind::Kind;
 use kind::kind_of;
+use kind::numbered::number_of;
 use lexitem::answer::Answer;
 use lexitem::answer::Outcome;
 use lexitem::answer::Refusal;
@@ -61,6 +63,30 @@ fn plain_length(line: &[u8]) -> usize
     first_high(line)
 }
 
+// Refusals 2 and 3, which come of the line's bytes alone. A number of 0 says that there is none.
+fn line_refusal(line: &[u8]) -> Refusal
+    ensures { λ r. ⌜ r ≡ steps.firstRefusal (specs.lineTests (now (line .entry))) ⌝ }
+{
+    if 1024 < line.len() {
+        return Refusal::new(2, 1024, line.len() - 1024);
+    }
+    let plain = plain_length(line);
+    if plain < line.len() {
+        return Refusal::new(3, plain, 1);
+    }
+    Refusal::new(0, 0, 0)
+}
+
+// These behind 1, for who asks for a record.
+fn entry_refusal(line: &[u8], remarks: &[u8]) -> Refusal
+    ensures { λ r. ⌜ r ≡ steps.firstRefusal (steps.entryTests (now (line .entry)) (now (remarks .entry))) ⌝ }
+{
+    if remarks.len() != 1000 {
+        return Refusal::new(1, 0, 0);
+    }
+    line_refusal(line)
+}
+
 // A refusal: no record and an empty list of faults.
 fn refuse(line: usize, refusal: Refusal) -> Answer
     ensures { λ r. ⌜ r ≡ steps.refusedWith line refusal ⌝ }
@@ -107,20 +133,54 @@ fn read_as(line: &[u8], number: usize, kind: Kind, options: Options, remarks: &[
     lex_kind(number, kind, line, options, remarks)
 }
 
-// Lexes a line of any bytes. The number is handed through. The remark table has 1,000 bytes, byte n nonzero when
-// remark number n is valid.
+// What asking for the kind of a line answers.
+pub enum Asked {
+    Is(Kind),
+    Refused(Refusal),
+}
+
+// The kind of a line of any bytes, without reading it.
+pub fn kind_line(line: &[u8], options: Options) -> Asked
+    ensures { λ r. ⌜ r ≡ kindAsked (now (line .entry)) options ⌝ }
+{
+    let refusal = line_refusal(line);
+    if refusal.number != 0 {
+        return Asked::Refused(refusal);
+    }
+    let mode = options.mode;
+    Asked::Is(kind_of(options.atoms, mode, line))
+}
+
+// Reads a line of any bytes as one of a kind, which has to be the one that `kind_line` gives; any other is refused. The rest is as for `lex_line`.
+pub fn read_line_as(
+    line: &[u8],
+    number: usize,
+    options: Options,
+    remarks: &[u8],
+    kind: Kind,
+) -> Answer
+    ensures { λ r. ⌜ r ≡ lexedAs kind (record { line = now (line .entry); number = number; options = options; remarks = now (remarks .entry) }) ⌝ }
+{
+    let refusal = entry_refusal(line, remarks);
+    if refusal.number != 0 {
+        return refuse(number, refusal);
+    }
+    let mode = options.mode;
+    let own = kind_of(options.atoms, mode, line);
+    if number_of(kind) != number_of(own) {
+        return refuse(number, Refusal::new(15, 0, 0));
+    }
+    read_as(line, number, own, options, remarks)
+}
+
+// Lexes a line of any bytes: the kind is asked for, and the line is read as one of it, with one scan of its bytes. The number is handed through.
+// The remark table has 1,000 bytes, byte n nonzero when remark number n is valid.
 pub fn lex_line(line: &[u8], number: usize, options: Options, remarks: &[u8]) -> Answer
     ensures { λ r. ⌜ r ≡ lexed (record { line = now (line .entry); number = number; options = options; remarks = now (remarks .entry) }) ⌝ }
 {
-    if remarks.len() != 1000 {
-        return refuse(number, Refusal::new(1, 0, 0));
-    }
-    if 1024 < line.len() {
-        return refuse(number, Refusal::new(2, 1024, line.len() - 1024));
-    }
-    let plain = plain_length(line);
-    if plain < line.len() {
-        return refuse(number, Refusal::new(3, plain, 1));
+    let refusal = entry_refusal(line, remarks);
+    if refusal.number != 0 {
+        return refuse(number, refusal);
     }
     let mode = options.mode;
     read_as(

@@ -9,6 +9,7 @@ pub mod Fields
 pub mod Agreeing
 pub mod Numbered
 pub mod Refusing
+pub mod Sequence
 pub mod Faults
 pub mod Edges
 pub mod One

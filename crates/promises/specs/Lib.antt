@@ -3,6 +3,7 @@ pub mod Reals
 pub mod Held
 pub mod Departures
 pub mod Refusing
+pub mod Sequence
 pub mod Numbered
 pub mod Edges
 pub mod Defaults

@@ -1,5 +1,6 @@
 -- "Refusals by number, in order of testing: given exactly when, place, length." The table of 01 once more, in words of numbers: a rule says which
--- refusals it gives, and a line's refusal is what the first rule that holds gives. Nothing here is a test.
+-- refusals it gives, and a line's refusal is what the first rule that holds gives. One list serves the three entries: "the first gives refusals 2
+-- and 3 only. The second tests its line again: 1, 2, 3, then a new 15, then the rest." Nothing here is a test.
 use Prim.Native.Nat.{ℕ, _-_, _<_, _≤_}
 use mathlib.Core.Path.{_≡_}
 use mathlib.Core.Logic.{_≢_, _⊎_}
@@ -12,7 +13,11 @@ use Rattle.lexitem.specs.declared.answer.Outcome.the-variants.{Accepted, Refuse
 use Rattle.lexitem.specs.declared.answer.Refusal.{Refusal}
 use Rattle.kind.specs.declared.Kind.{Kind}
 use Rattle.kind.specs.declared.Kind.the-variants.{Header, Remark, Cryst1, Seqadv, Modres, Ssbond}
-use Rattle.lexer.specs.Refusals.{Input, kind}
+use Rattle.lexer.specs.Lexed.{lexed, lexedAs, kindAsked}
+use Rattle.lexer.specs.Refusals.{Input, Asking, kind, given}
+use Rattle.lexer.specs.Refusals.Asking.{itsKind, itsRecord, recordAs}
+use Rattle.lexer.specs.declared.Asked.the-variants as asked
+use Rattle.lexitem.specs.Describe.{itemOf}
 use Rattle.lexitem.specs.Answer.{refusal}
 
 -- "For an answer that is an enum, a definition gives this paper's number and values for each case": an outcome by its number, place and length;
@@ -68,9 +73,61 @@ abbrev pub leastRule : Input → Rule
 leastRule i r =
     (least : ℕ) × Least (kind i) least × (length (i .line) < least) × (r ≡ refusal 6 (length (i .line)) (least - length (i .line)))
 
+-- ---- by what is asked
+-- who asks for a record
+abbrev pub Reading : Asking → Type 0
+Reading itsKind = ⊥
+Reading itsRecord = Unit {0}
+Reading (recordAs k) = Unit {0}
+
+-- a rule for those alone
+abbrev pub reading : Asking → Rule → Rule
+reading a rule r = Reading a × rule r
+
+-- the kind handed in isn't the line's
+abbrev pub Another : Asking → Kind → Type 0
+Another itsKind j = ⊥
+Another itsRecord j = ⊥
+Another (recordAs k) j = k ≢ j
+
+-- "15 (0, 0) exactly when the kind handed to it isn't the one the first gives"
+abbrev pub kindRule : Asking → Input → Rule
+kindRule a i r = Another a (kind i) × (r ≡ refusal 15 0 0)
+
 -- in order of testing
-abbrev pub rules : Input → List Rule
-rules i = tableRule i ∷ lengthRule i ∷ byteRule i ∷ headerRule i ∷ remarkRule i ∷ leastRule i ∷ []
+abbrev pub rules : Asking → Input → List Rule
+rules a i =
+    reading a (tableRule i)
+    ∷ lengthRule i
+    ∷ byteRule i
+    ∷ kindRule a i
+    ∷ reading a (headerRule i)
+    ∷ reading a (remarkRule i)
+    ∷ reading a (leastRule i)
+    ∷ []
+
+-- the numbers of the refusals that there are
+abbrev pub numbers : Asking → List ℕ
+numbers itsKind = 2 ∷ 3 ∷ []
+numbers itsRecord = 1 ∷ 2 ∷ 3 ∷ 4 ∷ 5 ∷ 6 ∷ []
+numbers (recordAs k) = 1 ∷ 2 ∷ 3 ∷ 15 ∷ 4 ∷ 5 ∷ 6 ∷ []
+
+abbrev pub OneOf : ℕ → List ℕ → Type 0
+OneOf n [] = ⊥
+OneOf n (m ∷ ms) = (n ≡ m) ⊎ OneOf n ms
+
+-- ---- what an entry answers
+-- a refusal
+abbrev pub Refuses : Asking → Input → Refusal → Type 0
+Refuses itsKind i r = kindAsked (i .line) (i .options) ≡ asked.Refused r
+Refuses itsRecord i r = lexed i .outcome ≡ Refused r
+Refuses (recordAs k) i r = lexedAs k i .outcome ≡ Refused r
+
+-- the line's kind, or the record of its kind
+abbrev pub Answers : Asking → Input → Type 0
+Answers itsKind i = kindAsked (i .line) (i .options) ≡ asked.Is (kind i)
+Answers itsRecord i = lexed i .outcome ≡ Accepted (itemOf (kind i) (given i))
+Answers (recordAs k) i = lexedAs k i .outcome ≡ Accepted (itemOf (kind i) (given i))
 
 -- the rule doesn't hold
 abbrev pub Silent : Rule → Type 0

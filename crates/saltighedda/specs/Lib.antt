@@ -1,5 +1,7 @@
 -- The words that the contracts of the C face cite.
 pub mod Face
+pub mod Packed
+pub mod Ask
 pub mod Places
 pub mod Write
 pub mod Matrix

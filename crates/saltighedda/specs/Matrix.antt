@@ -1,7 +1,7 @@
 -- The entries that collect rows and move a position: "A matrix is twelve doubles, row by row, and three bytes that say which rows are set.
 -- matrix_row: 13 for a row above 2; then 8 (0, 12) or 8 (0, 3) for arrays that are too short; else it writes the four and makes set[row] 1. apply:
 -- 14 unless twelve doubles and three bytes other than 0 are there; then 8 (0, 3); else out[0] to [2]."
-use Prim.Native.Nat.{ℕ, _+_, _*_, _^_}
+use Prim.Native.Nat.{ℕ, _+_, _*_}
 use mathlib.Core.Path.{_≡_}
 use mathlib.Core.Bool.{cond}
 use mathlib.Core.List.{List}
@@ -10,6 +10,7 @@ use lib.Dec.{eqb, ltb}
 use lib.Ieee.{Float, nan}
 use Rattle.transformation.specs.declared.record.Transformation.{Transformation}
 use Rattle.atom.specs.declared.record.Position.{Position}
+use Rattle.saltighedda.specs.Packed.{packedAs}
 use Rattle.matrix.specs.Rows.{whole, numbersOfWhole}
 use Rattle.matrix.specs.Apply.{applied}
 use Rattle.matrix.specs.declared.Slot.{Slot}
@@ -17,10 +18,6 @@ use Rattle.matrix.specs.declared.Slot.the-variants.{Set, Unset}
 use Rattle.matrix.specs.declared.Rows.{Rows}
 use Rattle.matrix.specs.declared.Handed.{Handed}
 use Rattle.matrix.specs.declared.Handed.the-variants.{Whole, RowUnset}
-
--- a refusal's number, place and length as one number; 0, 0 and 0 are no refusal
-abbrev pub packedAs : ℕ × ℕ × ℕ → ℕ
-packedAs (number, place, length) = number * 2 ^ 48 + place * 2 ^ 32 + length
 
 -- ---- the lent rows
 -- four doubles of a list, from a place on

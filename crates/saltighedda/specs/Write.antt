@@ -1,6 +1,6 @@
 -- The entries that write: "one 64-bit number: 0 is done, else a refusal as `number * 2^48 + place * 2^32 + length`. hetero 0 is ATOM, anything else
 -- HETATM; given 0 is blank, anything else `1`. family or which above 2 is another kind: 9 (0, 6)."
-use Prim.Native.Nat.{ℕ, _+_, _*_, _^_}
+use Prim.Native.Nat.{ℕ}
 use mathlib.Core.Path.{_≡_}
 use mathlib.Core.Bool.{cond, not}
 use mathlib.Core.List.{List}
@@ -9,14 +9,13 @@ use lib.Dec.{eqb}
 use lib.Ieee.{Float}
 use Rattle.sheet.specs.Sheet.{Sheet, otherKind, answerOf, afterwards, lineOf, numbersOf}
 use Rattle.sheet.specs.declared.Written.{Written}
+use Rattle.saltighedda.specs.Packed.{packedAs}
 use Rattle.printer.specs.Sheets.{Label, atomSheet, anisouSheet, cellSheet, scaleSheet, origxSheet, mtrixSheet, bareSheet}
 use Rattle.transformation.specs.declared.record.Transformation.{Transformation}
 use Rattle.printer.specs.declared.bare.Bare.the-variants as bare
 
 unfoldable pub packed : Written → ℕ
-packed w =
-    let (number, place, length) = numbersOf w in
-    number * 2 ^ 48 + place * 2 ^ 32 + length
+packed w = packedAs (numbersOf w)
 
 abbrev pub atomBy : ℕ → Label → Float → Float → Float → Float → Float → List ℕ → Sheet
 atomBy hetero v x y z occupancy bfactor asked = atomSheet (not (eqb hetero 0)) v (record { x = x; y = y; z = z }) occupancy bfactor asked

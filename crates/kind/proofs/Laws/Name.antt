@@ -1,5 +1,5 @@
 -- Laws of names.
---     row-name      a row's name among three is the one at its place
+--     row-name      a row's name among three is the one at its place, and none where there is no such place
 --     name-most     a name has at most six bytes
 --     six-front     so that its six begin with all of it
 -- Assumes nothing.
@@ -12,7 +12,7 @@ use lib.Seq.{take-take, take-append-seam}
 use lib.Dec.{T, eqb, leb, leb→le, lit≤}
 use lib.Ieee.Fits.{and-l, and-r}
 use Rattle.line.specs.Bytes.{bytes}
-use Rattle.kind.specs.Kind.{Named, names, rowOf, numberOf}
+use Rattle.kind.specs.Kind.{Named, names, noKind, rowPlace, numberOf}
 use Rattle.kind.specs.Name.{nameAt, word, nameOf, sixOf, rowName}
 use Rattle.kind.specs.declared.Kind.{Kind}
 use Rattle.kind.specs.declared.name.Name.{Name}
@@ -21,16 +21,17 @@ abbrev named : ℕ → List ℕ
 named place = word (nameAt place names)
 
 pub row-name : (row first : ℕ)
-    → rowName row (sixOf (named (first + 0))) (sixOf (named (first + 1))) (sixOf (named (first + 2))) ≡ sixOf (named (first + rowOf row))
-unfolding rowOf
-row-name row first = go (eqb row 0) (eqb row 1)
+    → rowName row (sixOf (named first)) (sixOf (named (first + 1))) (sixOf (named (first + 2))) ≡ sixOf (named (rowPlace first row))
+unfolding rowPlace
+row-name row first = go (eqb row 0) (eqb row 1) (eqb row 2)
   where
-    go : (a b : Bool)
-        → cond {A = Name} a (sixOf (named (first + 0))) (cond b (sixOf (named (first + 1))) (sixOf (named (first + 2))))
-        ≡ sixOf (named (first + cond a 0 (cond b 1 2)))
-    go true b = refl
-    go false true = refl
-    go false false = refl
+    go : (a b c : Bool)
+        → cond {A = Name} a (sixOf (named first)) (cond b (sixOf (named (first + 1))) (cond c (sixOf (named (first + 2))) (sixOf [])))
+        ≡ sixOf (named (cond a first (cond b (first + 1) (cond c (first + 2) noKind))))
+    go true b c = refl
+    go false true c = refl
+    go false false true = refl
+    go false false false = refl
 
 -- ---- no name has more than six bytes
 abbrev areShort : List Named → Bool

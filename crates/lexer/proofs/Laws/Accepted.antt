@@ -14,6 +14,7 @@ use lib.ListN.{length, take, drop}
 use Rattle.lexitem.specs.Describe.{itemOf}
 use Rattle.lexer.specs.Lexed.{refused, accepted, firstOf, lexed}
 use Rattle.lexer.specs.Refusals.{Input, Test, tests, kind, given, faults}
+use Rattle.lexer.specs.Refusals.Asking.{itsRecord}
 use Rattle.line.specs.Faults.{listed}
 use Rattle.lexitem.specs.declared.answer.Answer.{Answer}
 use Rattle.lexitem.specs.declared.answer.Outcome.the-variants.{Accepted}
@@ -27,20 +28,20 @@ module _ (i : Input) (x : LexItem) where
   test-failed true r else e = cc
   test-failed false r else e = refl
 
-  tests-passed : (rs : List Test) (else : Answer) → firstOf i rs else .outcome ≡ Accepted x → firstOf i rs else ≡ else
+  tests-passed : (rs : List Test) (else : Answer) → firstOf (refused i) rs else .outcome ≡ Accepted x → firstOf (refused i) rs else ≡ else
   tests-passed [] else e = refl
   tests-passed (r ∷ rest) else e = go (r .holds) (tests-passed rest else) e
     where
-      go : (b : Bool) → (firstOf i rest else .outcome ≡ Accepted x → firstOf i rest else ≡ else)
-          → cond b (refused i (r .gives)) (firstOf i rest else) .outcome ≡ Accepted x
-          → cond b (refused i (r .gives)) (firstOf i rest else) ≡ else
+      go : (b : Bool) → (firstOf (refused i) rest else .outcome ≡ Accepted x → firstOf (refused i) rest else ≡ else)
+          → cond b (refused i (r .gives)) (firstOf (refused i) rest else) .outcome ≡ Accepted x
+          → cond b (refused i (r .gives)) (firstOf (refused i) rest else) ≡ else
       go true on e = cc
       go false on e = on e
 
   module _ (yes : lexed i .outcome ≡ Accepted x) where
     pub accepted-answer : lexed i ≡ accepted i
     unfolding lexed
-    accepted-answer = tests-passed (tests i) (accepted i) yes
+    accepted-answer = tests-passed (tests itsRecord i) (accepted i) yes
 
     pub accepted-item : x ≡ itemOf (kind i) (given i)
     accepted-item = let e = accepted-answer in cc
@@ -48,9 +49,9 @@ module _ (i : Input) (x : LexItem) where
     pub accepted-line : length (i .line) ≤ 1024
     unfolding lexed
     accepted-line =
-        let on = tests-passed (take 1 (tests i)) (firstOf i (drop 1 (tests i)) (accepted i)) yes in
+        let on = tests-passed (take 1 (tests itsRecord i)) (firstOf (refused i) (drop 1 (tests itsRecord i)) (accepted i)) yes in
         ltb-false 1024 (length (i .line))
-        (test-failed _ _ (firstOf i (drop 2 (tests i)) (accepted i)) (ap (λ (a : Answer). a .outcome) (sym on) ∙ yes))
+        (test-failed _ _ (firstOf (refused i) (drop 2 (tests itsRecord i)) (accepted i)) (ap (λ (a : Answer). a .outcome) (sym on) ∙ yes))
 
     pub accepted-count : lexed i .faults .count ≡ length (faults i)
     accepted-count = rw accepted-answer (noted-exact (faults i) (faults-fifteen (kind i) (given i)))

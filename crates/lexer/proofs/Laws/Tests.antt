@@ -1,30 +1,71 @@
--- The tests for refusals that come of the kind, taken in the code's own steps, give the same answer.
---     no-third                                 three tests whose third fails
---     test-1, test-2, test-3, tests-passed     the first three
---     own-tests                                those from 4 to 6, and what is accepted behind them
+-- The entries in the code's own steps: several tests make one refusal, its number 0 where none holds.
+--     no-third         three tests whose third fails
+--     first-split      tests in front of others, as one refusal
+--     own-tests        those from 4 to 6, and what is accepted behind them
+--     lexed-split      a line's record: 1 to 3, and then those
+--     as-split         as one of a kind: 15 between them
+--     asked-split      its kind: 2 and 3
 -- Assumes nothing.
-use Prim.Native.Nat.{ℕ, _-_, _<_, _≤_}
-use mathlib.Core.Path.{_≡_, refl, sym, _∙_}
+use Prim.Native.Nat.{ℕ, _-_}
+use mathlib.Core.Path.{_≡_, refl, sym, ap, _∙_}
 use mathlib.Core.Bool.{Bool, true, false, cond, not, _&&_}
-use mathlib.Core.List.{List, [], _∷_}
+use mathlib.Core.List.{List, [], _∷_, _++_}
 use native.Mathlib.Omega.{arith}
-use borrow.Author.Tests.{eq-eqb, ne-eqb, lt-ltb, le-ltb, ltb-true, ltb-false}
-use lib.ListN.{length, drop}
-use lib.Dec.{ltb, leb, eqb}
-use Rattle.number.specs.Trim.{kept}
+use borrow.Author.Tests.{lt-ltb, le-ltb, ltb-true, ltb-false, not-true}
+use lib.ListN.{length}
+use lib.Dec.{T, ltb, eqb}
+use lib.Ieee.Bits.{is-true}
+use lib.Ieee.Fits.{and-l, and-r}
 use Rattle.field.proofs.Laws.Table.{table-noted}
 use Rattle.line.specs.Faults.{noFaults}
+use Rattle.line.specs.declared.options.Options.{Options}
+use Rattle.kind.specs.Kind.{kindOf, numberOf}
+use Rattle.kind.specs.declared.Kind.{Kind}
 use Rattle.lexitem.specs.declared.answer.Answer.{Answer}
 use Rattle.lexitem.specs.declared.answer.Refusal.{Refusal}
 use Rattle.lexitem.specs.Answer.{refusal}
 use Rattle.lexitem.specs.Describe.{boundOf, fieldsBy, faultsOf}
 use Rattle.lexitem.specs.Read.{gotItem}
-use Rattle.lexer.specs.Refusals.{Input, kind, given, plain, headerCut, remarkLong, missing, test, tests}
-use Rattle.lexer.specs.Lexed.{refused, accepted, firstOf, lexed}
-use Rattle.lexer.specs.Steps.{noRefusal, ownRefusal, headerRefusal, remarkRefusal, leastRefusal, refusedWith, answerOf, readAs}
 use Rattle.lexitem.specs.declared.bound.Bound.{Bound}
 use Rattle.lexitem.specs.declared.bound.Bound.the-variants as bound
+use Rattle.lexer.specs.Refusals.{Input, Test, Asking, kind, given, lineTests, ownTests, test}
+use Rattle.lexer.specs.Refusals.Asking.{itsKind, itsRecord, recordAs}
+use Rattle.lexer.specs.Lexed.{refused, accepted, firstOf, lexed, lexedAs, bare, kindAsked}
+use Rattle.lexer.specs.Steps.{firstRefusal, entryTests, ownRefusal, headerRefusal, remarkRefusal, leastRefusal, answerOf, readAs}
+use Rattle.lexer.specs.declared.Asked.{Asked}
+use Rattle.lexer.specs.declared.Asked.the-variants as asked
 
+-- three tests whose third fails
+pub no-third : (a b : Bool) → (a && b) && false ≡ false
+no-third true true = refl
+no-third true false = refl
+no-third false b = refl
+
+-- ---- tests as one refusal
+-- none of their refusals has the number 0
+abbrev numbered : List Test → Bool
+numbered [] = true
+numbered (t ∷ ts) = not (eqb (t .gives .number) 0) && numbered ts
+
+pub first-split : {A : Type 0} (refuse : Refusal → A) (ts rest : List Test) (else : A) → T (numbered ts)
+    → firstOf refuse (ts ++ rest) else ≡ cond (eqb (firstRefusal ts .number) 0) (firstOf refuse rest else) (refuse (firstRefusal ts))
+first-split refuse [] rest else h = refl
+first-split {A} refuse (t ∷ ts) rest else h =
+    let some = not (eqb (t .gives .number) 0) in
+    go (t .holds) (not-true (eqb (t .gives .number) 0) (is-true some (and-l some (numbered ts) h)))
+    (first-split refuse ts rest else (and-r some (numbered ts) h))
+  where
+    all : A
+    all = firstOf refuse (ts ++ rest) else
+
+    go : (b : Bool) → eqb (t .gives .number) 0 ≡ false
+        → all ≡ cond (eqb (firstRefusal ts .number) 0) (firstOf refuse rest else) (refuse (firstRefusal ts))
+        → cond b (refuse (t .gives)) all
+        ≡ cond (eqb (cond b (t .gives) (firstRefusal ts) .number) 0) (firstOf refuse rest else) (refuse (cond b (t .gives) (firstRefusal ts)))
+    go true e ih = rw e refl
+    go false e ih = ih
+
+-- ---- what a kind asks of its line
 -- bytes are missing exactly where the line is shorter
 missing-test : (n m : ℕ) → ltb 0 (n - m) ≡ ltb m n
 missing-test n m = go (ltb m n) refl
@@ -33,68 +74,53 @@ missing-test n m = go (ltb m n) refl
     go true e = let h = ltb-true m n e in lt-ltb 0 (n - m) (omega arith)
     go false e = let h = ltb-false m n e in le-ltb 0 (n - m) (omega arith)
 
+own-first : (b : Bound) (l : List ℕ) (loose : Bool) → firstRefusal (ownTests itsRecord b l loose) ≡ ownRefusal b l loose
+unfolding headerRefusal remarkRefusal leastRefusal
+own-first bound.Header l loose = refl
+own-first bound.Remark l loose = refl
+own-first (bound.Least n) l loose = rw (missing-test n (length l)) refl
+own-first bound.Free l loose = refl
+
 module _ (i : Input) where
-  -- ---- what is accepted, with its faults as they were noted
+  -- what is accepted, with its faults as they were noted
   accepted-got : accepted i ≡ answerOf (i .number) (gotItem (kind i) (given i))
   unfolding faultsOf
   accepted-got = rw (table-noted (given i) (fieldsBy (kind i) (given i)) noFaults) refl
 
-  -- ---- the tests from 4 to 6, by what the kind asks
-  -- a test that may hold, as a refusal whose number is 0 where it doesn't
-  one-test : (x : Bool) (r : Refusal) (rest : Answer) → eqb (r .number) 0 ≡ false
-      → cond x (refused i r) rest
-      ≡ cond (eqb (cond x r noRefusal .number) 0) rest (refusedWith (i .number) (cond x r noRefusal))
-  one-test true r rest e = rw e refl
-  one-test false r rest e = refl
-
-  by-bound : (b : Bound) (rest : Answer)
-      → (let l = i .line in
-      firstOf i
-      (test (headerCut b l) 4 11 (length l - 11)
-      ∷ test (remarkLong b l (i .options .loose)) 5 80 (length l - 80)
-      ∷ test (ltb 0 (missing b l)) 6 (length l) (missing b l)
-      ∷ [])
-      rest)
-      ≡ cond (eqb (ownRefusal b (i .line) (i .options .loose) .number) 0) rest (refusedWith (i .number) (ownRefusal b (i .line) (i .options .loose)))
-  unfolding headerRefusal remarkRefusal leastRefusal
-  by-bound bound.Header rest = one-test (ltb (length (i .line)) 66) (refusal 4 11 (length (i .line) - 11)) rest refl
-  by-bound bound.Remark rest =
-      one-test (ltb 11 (length (i .line)) && leb 80 (kept (i .line)) && not (i .options .loose)) (refusal 5 80 (length (i .line) - 80)) rest refl
-  by-bound (bound.Least n) rest =
-      rw (missing-test n (length (i .line)))
-      (one-test (ltb (length (i .line)) n) (refusal 6 (length (i .line)) (n - length (i .line))) rest refl)
-  by-bound bound.Free rest = refl
-
-  pub own-tests : firstOf i (drop 3 (tests i)) (accepted i) ≡ readAs (i .number) (kind i) (given i)
+  pub own-tests : firstOf (refused i) (ownTests itsRecord (boundOf (kind i)) (i .line) (i .options .loose)) (accepted i)
+      ≡ readAs (i .number) (kind i) (given i)
   unfolding readAs
-  own-tests = by-bound (boundOf (kind i)) (accepted i) ∙ rw accepted-got refl
+  own-tests =
+      let own = ownTests itsRecord (boundOf (kind i)) (i .line) (i .options .loose) in
+      first-split (refused i) own [] (accepted i) tt
+      ∙ rw (own-first (boundOf (kind i)) (i .line) (i .options .loose), accepted-got) refl
 
--- three tests whose third fails
-pub no-third : (a b : Bool) → (a && b) && false ≡ false
-no-third true true = refl
-no-third true false = refl
-no-third false b = refl
-
--- ---- the first three, by the tests that `lex_line` makes
-module _ (i : Input) where
-  pub test-1 : (length (i .remarks) ≡ 1000 → ⊥) → refusedWith (i .number) (refusal 1 0 0) ≡ lexed i
+  -- ---- the entries
+  pub lexed-split : lexed i
+      ≡ cond (eqb (firstRefusal (entryTests (i .line) (i .remarks)) .number) 0) (readAs (i .number) (kind i) (given i))
+      (refused i (firstRefusal (entryTests (i .line) (i .remarks))))
   unfolding lexed
-  test-1 a = rw (ne-eqb (length (i .remarks)) 1000 a) refl
+  lexed-split =
+      let own = ownTests itsRecord (boundOf (kind i)) (i .line) (i .options .loose) in
+      first-split (refused i) (entryTests (i .line) (i .remarks)) (test false 15 0 0 ∷ own) (accepted i) tt ∙ rw own-tests refl
 
-  module _ (a : length (i .remarks) ≡ 1000) where
-    pub test-2 : 1024 < length (i .line) → refusedWith (i .number) (refusal 2 1024 (length (i .line) - 1024)) ≡ lexed i
-    unfolding lexed
-    test-2 b = rw (eq-eqb (length (i .remarks)) 1000 a, lt-ltb 1024 (length (i .line)) b) refl
+  pub as-split : (k : Kind) → lexedAs k i
+      ≡ cond (eqb (firstRefusal (entryTests (i .line) (i .remarks)) .number) 0)
+      (cond (eqb (numberOf k) (numberOf (kind i))) (readAs (i .number) (kind i) (given i)) (refused i (refusal 15 0 0)))
+      (refused i (firstRefusal (entryTests (i .line) (i .remarks))))
+  unfolding lexedAs
+  as-split k =
+      let own = ownTests itsRecord (boundOf (kind i)) (i .line) (i .options .loose) in
+      let other = not (eqb (numberOf k) (numberOf (kind i))) in
+      first-split (refused i) (entryTests (i .line) (i .remarks)) (test other 15 0 0 ∷ own) (accepted i) tt
+      ∙ rw (own-tests, turned (eqb (numberOf k) (numberOf (kind i)))) refl
+    where
+      turned : (b : Bool) → cond (not b) (refused i (refusal 15 0 0)) (readAs (i .number) (kind i) (given i))
+          ≡ cond b (readAs (i .number) (kind i) (given i)) (refused i (refusal 15 0 0))
+      turned true = refl
+      turned false = refl
 
-    module _ (b : length (i .line) ≤ 1024) where
-      pub test-3 : plain (i .line) < length (i .line) → refusedWith (i .number) (refusal 3 (plain (i .line)) 1) ≡ lexed i
-      unfolding lexed
-      test-3 p =
-          rw (eq-eqb (length (i .remarks)) 1000 a, le-ltb 1024 (length (i .line)) b, lt-ltb (plain (i .line)) (length (i .line)) p) refl
-
-      pub tests-passed : length (i .line) ≤ plain (i .line)
-          → readAs (i .number) (kind i) (given i) ≡ lexed i
-      unfolding lexed
-      tests-passed p =
-          rw (eq-eqb (length (i .remarks)) 1000 a, le-ltb 1024 (length (i .line)) b, le-ltb (plain (i .line)) (length (i .line)) p)
-          (sym (own-tests i))
+pub asked-split : (l : List ℕ) (options : Options) → kindAsked l options
+    ≡ cond (eqb (firstRefusal (lineTests l) .number) 0) (asked.Is (kindOf (options .atoms) (options .mode) l)) (asked.Refused (firstRefusal (lineTests l)))
+unfolding kindAsked
+asked-split l options = first-split asked.Refused (lineTests l) [] (asked.Is (kindOf (options .atoms) (options .mode) l)) tt

@@ -22,7 +22,7 @@ use Rattle.seqadv.specs.declared.record.Target.the-variants.{NoResidue}
 use Rattle.line.specs.declared.text.Character.the-variants.{At, Unreached, Absent}
 use Rattle.line.specs.declared.text.Text.{Text}
 use Rattle.page.specs.Numerals.{decimalBefore, decimal, signedDecimal, hexDigit, hexBefore, hex16, plain, shown, escaped}
-use Rattle.kind.specs.Kind.{rowOf}
+use Rattle.kind.specs.Kind.{rowPlace}
 use Rattle.layout.specs.Each.{each}
 use Rattle.layout.specs.Label.{headRows, numberRow, threeRow}
 use Rattle.listing.specs.Listing.{listingOf}
@@ -89,7 +89,7 @@ pub scale : listingOf 3 []
     ∷ "f45=3FD0000000000000"
     ∷ "faults=0"
     ∷ [])
-unfolding listingOf headRows numberRow each rowBytes decimal decimalBefore hex16 hexBefore hexDigit ofBits toBits rowOf
+unfolding listingOf headRows numberRow each rowBytes decimal decimalBefore hex16 hexBefore hexDigit ofBits toBits rowPlace
 scale = refl
 
 pub modres : listingOf 7 (97 ∷ 37 ∷ 127 ∷ 32 ∷ [])

@@ -19,13 +19,16 @@ use Rattle.number.proofs.Laws.Trim.{kept-le}
 use Rattle.lexitem.specs.declared.answer.Refusal.{Refusal}
 use Rattle.kind.specs.declared.Kind.{Kind}
 use Rattle.kind.specs.declared.Kind.the-variants.{Header, Remark}
-use Rattle.lexer.specs.Refusals.{Input, Test, kind, plain, headerCut, remarkLong, missing, test, tests}
+use Rattle.lexer.specs.Refusals.{Input, Test, Asking, kind, reads, another, plain, headerCut, remarkLong, missing, test, tests}
+use Rattle.lexer.specs.Refusals.Asking.{itsKind, itsRecord, recordAs}
+use Rattle.kind.specs.Kind.{numberOf}
+use Rattle.kind.proofs.Laws.Number.{number-tells, kind-known}
 use Rattle.lexitem.specs.Describe.{boundOf}
 use Rattle.lexitem.specs.Answer.{refusal}
 use Rattle.lexitem.specs.declared.bound.Bound.{Bound}
 use Rattle.lexitem.specs.declared.bound.Bound.the-variants as bound
 use Rattle.promises.proofs.Laws.Kinds.{Asks, asks, least-asked}
-use Rattle.promises.specs.Refusing.{Rule, FirstHigh, Least, rules, tableRule, lengthRule, byteRule, headerRule, remarkRule, leastRule}
+use Rattle.promises.specs.Refusing.{Rule, FirstHigh, Least, reading, kindRule, rules, tableRule, lengthRule, byteRule, headerRule, remarkRule, leastRule}
 
 abbrev pub Agrees : Test → Rule → Type 0
 Agrees x rule = (x .holds ≡ true → rule (x .gives)) × ((r : Refusal) → rule r → (x .holds ≡ true) × (r ≡ x .gives))
@@ -165,6 +168,23 @@ module _ (i : Input) where
             rw b (lt-ltb 0 (h .0 - length l) (omega arith), h .3),
       )
 
-  pub rules-agree : AllAgree (tests i) (rules i)
-  rules-agree =
-      (table-row i, (length-row i, (byte-row i, (header-row, (remark-row, (least-row, tt))))))
+  -- ---- by what is asked
+  -- a row for who asks for a record, and its rule
+  for-reading : (a : Asking) {holds : Bool} {number place length : ℕ} {rule : Rule}
+      → Agrees (test holds number place length) rule → Agrees (test (reads a && holds) number place length) (reading a rule)
+  for-reading itsKind h = (λ e. false-is e, λ r p. absurd (p .0))
+  for-reading itsRecord h = (λ e. (tt, h .0 e), λ r p. h .1 r (p .1))
+  for-reading (recordAs k) h = (λ e. (tt, h .0 e), λ r p. h .1 r (p .1))
+
+  -- a number that a line's kind has is that kind's alone
+  kind-row : (a : Asking) → Agrees (test (another a (kind i)) 15 0 0) (kindRule a i)
+  kind-row itsKind = (λ e. false-is e, λ r p. absurd (p .0))
+  kind-row itsRecord = (λ e. false-is e, λ r p. absurd (p .0))
+  kind-row (recordAs k) =
+      by-test (test (another (recordAs k) (kind i)) 15 0 0)
+      (λ e same. eqb-false (numberOf k) (numberOf (kind i)) (not-true (eqb (numberOf k) (numberOf (kind i))) e) (ap numberOf same))
+      (λ other. ap not (ne-eqb (numberOf k) (numberOf (kind i)) (λ e. other (number-tells k (kind i) (kind-known (i .options .atoms) (i .options .mode) (i .line)) e))))
+
+  pub rules-agree : (a : Asking) → AllAgree (tests a i) (rules a i)
+  rules-agree a =
+      (for-reading a (table-row i), (length-row i, (byte-row i, (kind-row a, (for-reading a header-row, (for-reading a remark-row, (for-reading a least-row, tt)))))))

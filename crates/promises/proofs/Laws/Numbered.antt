@@ -15,7 +15,7 @@ use lib.Dec.{T, eqb, eqb→eq}
 use lib.ListN.{length, take}
 use lib.Ieee.Fits.{and-l, and-r}
 use Rattle.line.specs.declared.options.Mode.{Mode}
-use Rattle.kind.specs.Kind.{Named, names, keptNames, namesBy, same, kindBy, kindOf, rowOf, numberOf}
+use Rattle.kind.specs.Kind.{Named, names, keptNames, namesBy, same, kindBy, kindOf, rowPlace, numberOf}
 use Rattle.kind.specs.Name.{nameAt, keptAt}
 use Rattle.promises.specs.Numbered.{placeNumber}
 
@@ -38,7 +38,7 @@ numbered-at atoms k (x ∷ ns) t (suc n) h =
     rw next (numbered-at atoms (suc k) ns (and-r this (areNumbered atoms (suc k) ns) t) n (le-of-suc-le-suc h))
 
 all-numbered : (atoms : Bool) → T (areNumbered atoms 0 names)
-unfolding rowOf
+unfolding rowPlace
 all-numbered true = tt
 all-numbered false = tt
 

@@ -17,7 +17,7 @@ use lib.Dec.{ltb}
 use Rattle.line.specs.Faults.{noFaults}
 use Rattle.line.specs.declared.options.Mode.{Mode}
 use Rattle.number.proofs.Laws.Choice.{and-left}
-use Rattle.kind.specs.Kind.{kindOf, kindBy, namesBy, rowOf}
+use Rattle.kind.specs.Kind.{kindOf, kindBy, namesBy, rowPlace}
 use Rattle.kind.specs.Name.{keptByAtoms}
 use Rattle.kind.specs.declared.Kind.{Kind}
 use Rattle.lexitem.specs.Describe.{boundOf, itemOf, faultsOf}
@@ -35,7 +35,7 @@ use Rattle.roundtrip.proofs.Laws.Plain.{Low, line-low}
 
 -- ---- the fields stand in the line
 ascends : {k : Kind} {asked : List ℕ} {s : Sheet} → Writable k asked s → ascend (length (s .name)) (s .cells) ≡ true
-unfolding rowOf
+unfolding rowPlace
 ascends (atom v position occupancy bfactor asked clean) = refl
 ascends (hetatm v position occupancy bfactor asked clean) = refl
 ascends (anisou v factors clean) = refl
@@ -53,7 +53,7 @@ written-lined {s = s} w fit = line-lined s (ascends w) fit
 
 -- ---- every byte is below 128
 name-low : {k : Kind} {asked : List ℕ} {s : Sheet} → Writable k asked s → Low (s .name)
-unfolding plain rowOf
+unfolding plain rowPlace
 name-low (atom v position occupancy bfactor asked clean) = refl
 name-low (hetatm v position occupancy bfactor asked clean) = refl
 name-low (anisou v factors clean) = refl
@@ -84,7 +84,7 @@ no-row n e = omega (arith, ltb-true (suc (suc (suc n))) 3 (and-left (ltb (suc (s
 -- the first six bytes are a name, and its kind
 named : {k : Kind} {asked : List ℕ} {s : Sheet} → Writable k asked s → Fit (s .cells) → (atoms : Bool) → Keeps atoms k
     → kindBy (take 6 (lineOf s)) (namesBy atoms) ≡ k
-unfolding lineOf cellsFrom rowBytes texted fitting right blanks rowOf
+unfolding lineOf cellsFrom rowBytes texted fitting right blanks rowPlace
 named (atom v position occupancy bfactor asked clean) fit true kept = refl
 named (atom v position occupancy bfactor asked clean) fit false kept = refl
 named (hetatm v position occupancy bfactor asked clean) fit true kept = refl

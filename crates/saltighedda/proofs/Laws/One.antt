@@ -14,6 +14,7 @@ use lib.ListN.{length}
 use lib.Dec.{leb, ltb}
 use Rattle.lexer.specs.Lexed.{lexed, refused, accepted, firstOf}
 use Rattle.lexer.specs.Refusals.{Input, Test, tests}
+use Rattle.lexer.specs.Refusals.Asking.{itsRecord}
 use Rattle.lexitem.specs.declared.answer.Outcome.{Outcome}
 use Rattle.lexitem.specs.declared.answer.Outcome.the-variants as outcome
 use Rattle.lexitem.specs.declared.answer.Refusal.{Refusal}
@@ -45,20 +46,20 @@ both : (a b : Bool) → a && b ≡ true → (a ≡ true) × (b ≡ true)
 both true b e = (refl, e)
 both false b e = (e, cc)
 
-first-number : (i : Input) (rs : List Test) → numbered rs ≡ true → 0 < numberIn (firstOf i rs (accepted i) .outcome)
+first-number : (i : Input) (rs : List Test) → numbered rs ≡ true → 0 < numberIn (firstOf (refused i) rs (accepted i) .outcome)
 first-number i [] e = omega arith
 first-number i (r ∷ t) e =
     let h = both (ltb 0 (r .gives .number)) (numbered t) e in
     go (r .holds) (ltb-true 0 (r .gives .number) (h .0)) (first-number i t (h .1))
   where
-    go : (b : Bool) → 0 < r .gives .number → 0 < numberIn (firstOf i t (accepted i) .outcome)
-        → 0 < numberIn (cond b (refused i (r .gives)) (firstOf i t (accepted i)) .outcome)
+    go : (b : Bool) → 0 < r .gives .number → 0 < numberIn (firstOf (refused i) t (accepted i) .outcome)
+        → 0 < numberIn (cond b (refused i (r .gives)) (firstOf (refused i) t (accepted i)) .outcome)
     go true h on = h
     go false h on = on
 
 number-some : (i : Input) → 0 < numberIn (lexed i .outcome)
 unfolding lexed
-number-some i = first-number i (tests i) refl
+number-some i = first-number i (tests itsRecord i) refl
 
 -- ---- by what is measured
 abbrev Apart : Listed → Type 0
