@@ -6,17 +6,19 @@ PREFIX ?= /usr/local
 FILE ?= examples/zinc.pdb
 
 program := target/bin/pdblist
+checker := target/bin/pdbmaster
 server := target/bin/serve
 library := target/staticlib/libsaltighedda.a
 sources := crates.txt $(shell find crates -type f)
 
 .NOTPARALLEL:
-.PHONY: help list test needs format contracts hosts compare oracle differential bench install
+.PHONY: help list master test needs format contracts hosts compare oracle differential bench install
 
 help:
 	@echo 'make list FILE=..        lists the lines of a PDB file, and what could not be read of them'
+	@echo 'make master FILE=..      whether the lines of a PDB file are as many as its MASTER line says'
 	@echo 'make test                everything that is checked: proofs, must-fail edits, test programs, C hosts, a short differential run'
-	@echo 'make install PREFIX=..   the program, the C header and the static library, with a file for pkg-config'
+	@echo 'make install PREFIX=..   the programs, the C header and the static library, with a file for pkg-config'
 	@echo 'make differential        ten million lines and a million written records, compared with the Rust (needs rustc, see differential/README.md)'
 	@echo 'make bench               how quick it is beside the Rust and plain C (needs rustc and cc, see docs/SPEED.md)'
 	@echo 'make format              the layout of the sources alone'
@@ -24,6 +26,9 @@ help:
 
 list: $(program)
 	@tools/run $(program) < '$(FILE)'
+
+master: $(checker)
+	@tools/run $(checker) < '$(FILE)'
 
 # Says nothing but what went wrong. A program is built once it is proved, and so is the library.
 define quietly
@@ -33,7 +38,7 @@ define quietly
 	touch $@
 endef
 
-$(program) $(server): $(sources)
+$(program) $(checker) $(server): $(sources)
 	$(call quietly,rt check $(@F))
 
 $(library): $(sources)
@@ -61,9 +66,10 @@ contracts:
 	@tests/believed.sh
 	@tests/house.sh
 
-hosts: $(program) $(library)
+hosts: $(program) $(checker) $(library)
 	@tests/run.sh
 	@tests/pdblist.sh
+	@tests/pdbmaster.sh
 	@tests/c.sh
 
 compare: $(server)
@@ -81,10 +87,11 @@ differential: $(server)
 bench:
 	@bench/run.sh
 
-install: $(program) $(library)
+install: $(program) $(checker) $(library)
 	@install -d '$(DESTDIR)$(PREFIX)/bin' '$(DESTDIR)$(PREFIX)/include' '$(DESTDIR)$(PREFIX)/lib/pkgconfig'
 	@install -m 755 $(program) '$(DESTDIR)$(PREFIX)/bin/pdblist'
+	@install -m 755 $(checker) '$(DESTDIR)$(PREFIX)/bin/pdbmaster'
 	@install -m 644 include/saltighedda.h '$(DESTDIR)$(PREFIX)/include/saltighedda.h'
 	@install -m 644 $(library) '$(DESTDIR)$(PREFIX)/lib/libsaltighedda.a'
 	@sed 's|@PREFIX@|$(PREFIX)|' saltighedda.pc.in > '$(DESTDIR)$(PREFIX)/lib/pkgconfig/saltighedda.pc'
-	@[ "$$(uname -m)" = x86_64 ] || echo "install: the program and the library are for x86-64, and this machine is $$(uname -m)"
+	@[ "$$(uname -m)" = x86_64 ] || echo "install: the programs and the library are for x86-64, and this machine is $$(uname -m)"

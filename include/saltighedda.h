@@ -1,6 +1,6 @@
 /*
  * saltighedda.h: a line of a PDB file, listed, with what could not be read and how many decimals were written; its kind alone; a
- * record, written as a line; and a position, moved by the rows of a transformation.
+ * record, written as a line; a position, moved by the rows of a transformation; and a file, held against its MASTER line.
  *
  * Every entry takes any bytes and any numbers; nothing has to be checked beforehand. A host has one duty: a buffer is a pointer
  * and the number of bytes that are there, the output's bytes are in no other buffer of the call, and nobody else writes to them
@@ -248,6 +248,32 @@ uint64_t saltighedda_matrix_row(uint64_t row, double a, double b, double c, doub
  */
 uint64_t saltighedda_apply(const double *rows, size_t rows_len, const uint8_t *set, size_t set_len, double x, double y, double z,
                            double *out, size_t out_len);
+
+/*
+ * A whole file held against its MASTER line, to find out whether lines are missing. A line ends at LF, a CR just before LF is dropped,
+ * and an empty last piece is no line. Lines count by their first six bytes, those of three to five bytes as if blanks followed to six,
+ * in every model, whether or not they can be read. `found` is lent: SALTIGHEDDA_FOUND words. The answer is 0, and then
+ *
+ *     found[0]          bit n is set if the n-th of MASTER's twelve numbers, from 0, isn't what was counted
+ *     found[1] to [12]  what was counted: REMARK, nothing (0), HET, HELIX, SHEET, TURN, SITE, the rows of ORIGX, SCALE and MTRIX together,
+ *                       ATOM with HETATM, TER, CONECT, SEQRES
+ *     found[13] to [24] what MASTER says, in that order
+ *
+ * and what is behind them stays as it was; or it is a number, and all of `found` is as it was:
+ *
+ *     10  no line is a MASTER line
+ *     11  there is more than one
+ *     12  the MASTER line has a fault, or is refused when it is read with no options, or is its six bytes alone
+ *     8   `found` has fewer than SALTIGHEDDA_FOUND words; tested last
+ *
+ * It is the number alone, since a place in a file doesn't fit beside it. The other two calls tell where in the file the line starts that
+ * a refusal is about, and how many bytes it has: the second MASTER line for 11, the one for 12; 0 for 10 and where 10 to 12 aren't given.
+ */
+#define SALTIGHEDDA_FOUND 25
+
+uint64_t saltighedda_check_master(const uint8_t *file, size_t file_len, uint64_t *found, size_t found_len);
+uint64_t saltighedda_check_master_place(const uint8_t *file, size_t file_len);
+uint64_t saltighedda_check_master_length(const uint8_t *file, size_t file_len);
 
 /*
  * The same by name: a struct for each family, and a function that hands its members over. A member that an initializer leaves out

@@ -43,6 +43,10 @@ form() {
             case $head in *'&mut'*) echo "says nothing of the bytes it is lent"; return 1 ;; esac
             echo equation
             ;;
+        'now (tally .exit) ≡ '*)
+            is_given "$right" || { echo "has an equation that needn't fix what it is lent"; return 1; }
+            echo equation
+            ;;
         'page (now (out .exit)) r ≡ put '*)
             is_given "$right" || { echo "has an equation that needn't fix its page"; return 1; }
             echo page
@@ -51,14 +55,14 @@ form() {
             is_given "$right" || { echo "has an equation that needn't fix its draft"; return 1; }
             echo page
             ;;
-        'into.ListedInto '* | 'specs.WrittenInto '* | 'specs.Told '* | 'specs.Fills '* | 'specs.Puts '* | 'specs.Ends '* | 'sheets.Writes '* | 'specs.Packs '* | 'specs.Collects '* | 'specs.Applies '* | 'specs.Counts '*) echo named ;;
+        'into.ListedInto '* | 'specs.WrittenInto '* | 'specs.Told '* | 'specs.Fills '* | 'specs.Puts '* | 'specs.Ends '* | 'sheets.Writes '* | 'specs.Packs '* | 'specs.Collects '* | 'specs.Applies '* | 'specs.Counts '* | 'specs.Finds '*) echo named ;;
         '(r .file ≡ '*' × (r .at ≡ '*) echo fields ;;
         *) echo "has no contract of a known form"; return 1 ;;
     esac
 }
 
 # Contracts that say nothing have to be seen through.
-for empty in 'r ≡ r' 'r ≡ cond true (r) n' 'page (now (out .exit)) r ≡ put (page (now (out .exit)) r) []' 'specs.draft (now (out .exit)) r ≡ specs.draft (now (out .exit)) r' 'r ≡ pick (now (out .exit))' 'r ≡ f n → x'; do
+for empty in 'r ≡ r' 'r ≡ cond true (r) n' 'page (now (out .exit)) r ≡ put (page (now (out .exit)) r) []' 'specs.draft (now (out .exit)) r ≡ specs.draft (now (out .exit)) r' 'r ≡ pick (now (out .exit))' 'now (tally .exit) ≡ now (tally .exit)' 'r ≡ f n → x'; do
     if told=$(form "pub fn f(n: usize) -> usize ensures { λ r. ⌜ $empty ⌝ } {"); then
         echo "contracts: a contract that says nothing passes as an $told: $empty" >&2
         exit 1

@@ -6,3 +6,4 @@ pub mod Places
 pub mod One
 pub mod Write
 pub mod Matrix
+pub mod Check

@@ -5,3 +5,4 @@ pub mod Ask
 pub mod Places
 pub mod Write
 pub mod Matrix
+pub mod Check

@@ -1,0 +1,77 @@
+-- `pdbmaster::input::read_all` meets its contract: what was read has room, and a turn that doesn't end the loop fills some of it.
+-- Assumes nothing.
+use Prim.Native.Nat.{_-_, _≤_}
+use mathlib.Core.Path.{_≡_}
+use lib.ListN.{length}
+use borrow.Author.Needs.{needs}
+use Rattle.pdbmaster.proofs.input.read_all.Statement.{statement}
+use Rattle.pdbmaster.proofs.input.read_all.Tie as tie
+
+abbrev Inv-loop : tie.InvT-loop
+Inv-loop space₀ done₀ space done = (length space ≡ length space₀) × (done ≤ length space₀)
+
+abbrev μ-loop : tie.MeasureT-loop
+μ-loop space₀ done₀ space done = length space₀ - done
+
+loop-holds : tie.Need-loop-holds Inv-loop μ-loop
+loop-holds c = search needs
+
+read-more-requires : tie.Need-read-more-requires Inv-loop μ-loop
+read-more-requires c κs = search needs
+
+enum-known-more : tie.Need-enum-known-more Inv-loop μ-loop
+enum-known-more c = search needs
+
+enum-told : tie.Need-enum-told Inv-loop μ-loop
+enum-told c = search needs
+
+same-length : tie.Need-same-length Inv-loop μ-loop
+same-length c = search needs
+
+returns : tie.Need-returns Inv-loop μ-loop
+returns c = search needs
+
+same-length-2 : tie.Need-same-length-2 Inv-loop μ-loop
+same-length-2 c = search needs
+
+returns-2 : tie.Need-returns-2 Inv-loop μ-loop
+returns-2 c = search needs
+
+add-done : tie.Need-add-done Inv-loop μ-loop
+add-done c =
+    let more = rw (c .before .before .more .given .1) at (c .before .before .before .before .before .before .read-more .ensures .0) in
+    search needs
+
+loop-less : tie.Need-loop-less Inv-loop μ-loop
+loop-less c = search needs
+
+loop-again : tie.Need-loop-again Inv-loop μ-loop
+loop-again c =
+    let more = rw (c .before .before .more .given .1) at (c .before .before .before .before .before .before .read-more .ensures .0) in
+    search needs
+
+same-length-3 : tie.Need-same-length-3 Inv-loop μ-loop
+same-length-3 c = search needs
+
+returns-3 : tie.Need-returns-3 Inv-loop μ-loop
+returns-3 c = search needs
+
+pub read-all-spec : {M : Type 1} → statement M
+read-all-spec =
+    tie.close
+    (tie.spec
+    Inv-loop
+    μ-loop
+    loop-holds
+    read-more-requires
+    enum-known-more
+    enum-told
+    same-length
+    returns
+    same-length-2
+    returns-2
+    add-done
+    loop-less
+    loop-again
+    same-length-3
+    returns-3)
