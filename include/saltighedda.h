@@ -89,7 +89,7 @@ size_t saltighedda_list_refusal(const uint8_t *line, size_t line_len, size_t num
 size_t saltighedda_list_place(const uint8_t *line, size_t line_len, size_t number, uint32_t options,
                               const uint8_t *remarks, size_t remarks_len, uint8_t *out, size_t out_len);
 
-/* How many columns it is about; for refusal 8, the bytes needed. Returns 0 if there is no refusal. */
+/* How many columns it is about, for refusal 2 stopping at 2^32 - 1; for refusal 8, the bytes needed. Returns 0 if there is no refusal. */
 size_t saltighedda_list_length(const uint8_t *line, size_t line_len, size_t number, uint32_t options,
                                const uint8_t *remarks, size_t remarks_len, uint8_t *out, size_t out_len);
 

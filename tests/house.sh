@@ -31,13 +31,13 @@ sorted() {
 }
 
 sed -n '/^#/d; s/:/ /; /./p' crates.txt | sorted > "$folder/listed"
-sed -n 's/^    [0-9]  //p' docs/HOUSE.md | sed 's/->//' | sorted > "$folder/drawn"
+sed -n 's/^   [ 0-9][0-9]  //p' docs/HOUSE.md | sed 's/->//' | sorted > "$folder/drawn"
 for crate in $(ls crates); do echo "$crate $(used "$crate" | tr '\n' ' ')"; done | sorted > "$folder/used"
 diff -u "$folder/used" "$folder/listed" >&2 || { echo "house: crates.txt isn't what the use lines name" >&2; exit 1; }
 diff -u "$folder/listed" "$folder/drawn" >&2 || { echo "house: docs/HOUSE.md isn't what crates.txt lists" >&2; exit 1; }
 
 # The floor of a crate is one above the highest that it stands on.
-sed -n 's/^    \([0-9]\)  \([a-z_0-9]*\).*/\2 \1/p' docs/HOUSE.md | sort > "$folder/floors"
+sed -n 's/^ *\([0-9]\{1,2\}\)  \([a-z_0-9]*\).*/\2 \1/p' docs/HOUSE.md | sort > "$folder/floors"
 awk '
     NR == FNR { floor[$1] = $2; next }
     {

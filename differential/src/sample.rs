@@ -11,17 +11,13 @@ use std::collections::HashSet;
 use std::fs;
 use std::io;
 
-/// The most bytes that `pdblist` reads.
+/// The most bytes of a file of the sample.
 const MOST: usize = 65536;
 
 /// What `pdblist` prints for a file, and what was found about the Rust on the way.
 pub fn listed(file: &[u8], tables: &Tables) -> (Vec<u8>, Vec<&'static str>) {
     let mut printed = Page::new();
     let mut found = Vec::new();
-    if file.len() > MOST {
-        printed.put("input=too-long\n");
-        return (printed.bytes, found);
-    }
     let mut oracle = Oracle::new();
     let mut input = Input::new();
     input.table = tables::ALL_VALID;

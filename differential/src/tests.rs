@@ -280,7 +280,6 @@ fn lines_of_a_file() {
     assert_eq!(cut(""), [b""; 0]);
     assert_eq!(cut("\n"), [b""]);
     assert_eq!(cut("a\r\nb\r\r\n\r\n\nc\r"), [&b"a"[..], b"b\r", b"", b"", b"c\r"]);
-    assert_eq!(printed(&"\n".repeat(65537)), "input=too-long\n");
 }
 
 /// What is written of the record that the Rust reads of a line, or the refusal.

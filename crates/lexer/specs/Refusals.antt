@@ -1,7 +1,7 @@
 -- "Refusals by number, in order of testing": a test says when a refusal is given and with which place and length, and the first that holds is
 -- the answer. "Split the reading entry in two: one that says the kind of a line under given options, and one that reads a line as its kind." One
 -- list serves all three entries; what is asked decides which of its tests can hold.
-use Prim.Native.Nat.{ℕ, suc, _-_}
+use Prim.Native.Nat.{ℕ, suc, _-_, _^_, min}
 use mathlib.Core.Bool.{Bool, true, false, cond, not, _&&_}
 use mathlib.Core.List.{List, [], _∷_, _++_}
 use lib.ListN.{length}
@@ -57,6 +57,10 @@ unfoldable pub plain : List ℕ → ℕ
 plain [] = 0
 plain (b ∷ t) = cond (ltb b 128) (suc (plain t)) 0
 
+-- "the excess stops at 2^32-1": by how many bytes a line of so many is over 1,024
+abbrev pub excess : ℕ → ℕ
+excess n = min (n - 1024) (2 ^ 32 - 1)
+
 -- HEADER under 66
 abbrev pub headerCut : Bound → List ℕ → Bool
 headerCut bound.Header l = ltb (length l) 66
@@ -92,7 +96,7 @@ tableTest a remarks = test (reads a && not (eqb (length remarks) 1000)) 1 0 0
 -- of the line's bytes alone
 abbrev pub lineTests : List ℕ → List Test
 lineTests l =
-    test (ltb 1024 (length l)) 2 1024 (length l - 1024)
+    test (ltb 1024 (length l)) 2 1024 (excess (length l))
     ∷ test (ltb (plain l) (length l)) 3 (plain l) 1
     ∷ []
 

@@ -63,12 +63,25 @@ fn plain_length(line: &[u8]) -> usize
     first_high(line)
 }
 
+// By how many bytes a line of so many is over 1,024, as far as it is counted.
+pub fn excess(size: usize) -> usize
+    ensures { λ r. ⌜ r ≡ specs.excess size ⌝ }
+{
+    if size <= 1024 {
+        return 0;
+    }
+    if 4294968319 < size {
+        return 4294967295;
+    }
+    size - 1024
+}
+
 // Refusals 2 and 3, which come of the line's bytes alone. A number of 0 says that there is none.
 fn line_refusal(line: &[u8]) -> Refusal
     ensures { λ r. ⌜ r ≡ steps.firstRefusal (specs.lineTests (now (line .entry))) ⌝ }
 {
     if 1024 < line.len() {
-        return Refusal::new(2, 1024, line.len() - 1024);
+        return Refusal::new(2, 1024, excess(line.len()));
     }
     let plain = plain_length(line);
     if plain < line.len() {

@@ -1,7 +1,7 @@
 -- "Refusals by number, in order of testing: given exactly when, place, length." The table of 01 once more, in words of numbers: a rule says which
 -- refusals it gives, and a line's refusal is what the first rule that holds gives. One list serves the three entries: "the first gives refusals 2
 -- and 3 only. The second tests its line again: 1, 2, 3, then a new 15, then the rest." Nothing here is a test.
-use Prim.Native.Nat.{ℕ, _-_, _<_, _≤_}
+use Prim.Native.Nat.{ℕ, _-_, _^_, _<_, _≤_, min}
 use mathlib.Core.Path.{_≡_}
 use mathlib.Core.Logic.{_≢_, _⊎_}
 use mathlib.Core.Bool.{false}
@@ -34,9 +34,9 @@ Rule = Refusal → Type 0
 abbrev pub tableRule : Input → Rule
 tableRule i r = (length (i .remarks) ≢ 1000) × (r ≡ refusal 1 0 0)
 
--- "2: line over 1,024 bytes; 1024, excess"
+-- "2: line over 1,024 bytes; 1024, excess", which "stops at 2^32-1"
 abbrev pub lengthRule : Input → Rule
-lengthRule i r = (1024 < length (i .line)) × (r ≡ refusal 2 1024 (length (i .line) - 1024))
+lengthRule i r = (1024 < length (i .line)) × (r ≡ refusal 2 1024 (min (length (i .line) - 1024) (2 ^ 32 - 1)))
 
 -- a byte of 128 or more stands at the place, and none before it
 pub record FirstHigh (l : List ℕ) (place : ℕ) : Type 0 where

@@ -1,7 +1,7 @@
 // Lists each file of its folder `data` as pdblist lists its input. The files are lines drawn by the differential run, of every kind and with
 // every fault that pdblist can show at every place, and `stdout` holds what the Rust answered for them; differential/README.md says how both
 // were made. The last file is empty.
-use stream::print_file;
+use stream::list_from;
 
 fn replay(path: &[u8]) {
     let fd = os::open_read(path);
@@ -9,10 +9,8 @@ fn replay(path: &[u8]) {
         os::fail(path);
         return;
     }
-    let mut space = [0u8; 65537];
-    let n = io::read_full(fd, &mut space);
+    list_from(fd);
     libc::close(fd);
-    print_file(&space[..n]);
 }
 
 fn main() {

@@ -16,7 +16,7 @@ use walker::lines::line;
 use walker::step;
 
 // Room enough for any report.
-const LONGEST: usize = 4096;
+pub const LONGEST: usize = 4096;
 
 // A line's report at the front of lent bytes, the line being read as the program reads it.
 pub fn put_line(text: &[u8], number: usize, out: &mut [u8]) -> usize

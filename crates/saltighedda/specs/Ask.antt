@@ -1,14 +1,11 @@
--- "The kind number, or refusal 2 or 3, which is 2^48 or more", "the length stopping at 2^32 - 1".
-use Prim.Native.Nat.{ℕ, _-_, _^_, min}
+-- "The kind number, or refusal 2 or 3, which is 2^48 or more".
+use Prim.Native.Nat.{ℕ}
 use Rattle.kind.specs.Kind.{numberOf}
 use Rattle.lexer.specs.Lexed.{kindAsked}
 use Rattle.lexer.specs.declared.Asked.{Asked}
 use Rattle.lexer.specs.declared.Asked.the-variants.{Is, Refused}
 use Rattle.saltighedda.specs.Packed.{packedAs}
 
-abbrev pub stopped : ℕ → ℕ
-stopped length = min length (2 ^ 32 - 1)
-
 abbrev pub kindWord : Asked → ℕ
 kindWord (Is k) = numberOf k
-kindWord (Refused r) = packedAs (r .number, r .place, stopped (r .length))
+kindWord (Refused r) = packedAs (r .number, r .place, r .length)

@@ -11,22 +11,13 @@ use lexer::Asked;
 use lexer::kind_line;
 use lexitem::answer::Refusal;
 
-fn stopped(length: usize) -> u64
-    ensures { λ r. ⌜ r ≡ specs.stopped length ⌝ }
-{
-    if length < 4294967295 {
-        return length as u64;
-    }
-    4294967295
-}
-
 fn packed(refusal: Refusal) -> u64
-    requires { ⌜ (refusal .number < 65536) × (refusal .place < 65536) ⌝ }
-    ensures { λ r. ⌜ r ≡ packedAs (refusal .number, refusal .place, specs.stopped (refusal .length)) ⌝ }
+    requires { ⌜ (refusal .number < 65536) × (refusal .place < 65536) × (refusal .length < 4294967296) ⌝ }
+    ensures { λ r. ⌜ r ≡ packedAs (refusal .number, refusal .place, refusal .length) ⌝ }
 {
     refusal.number as u64 * 281474976710656
         + refusal.place as u64 * 4294967296
-        + stopped(refusal.length)
+        + refusal.length as u64
 }
 
 #[no_mangle]

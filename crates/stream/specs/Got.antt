@@ -1,8 +1,5 @@
--- What reading answers, and the bytes that it finds in the space it is lent. No contract can say which bytes a read puts there.
+-- What reading answers. No contract can say which bytes a read puts into the space that it is lent.
 use Prim.Native.Nat.{ℕ, _≤_}
-use mathlib.Core.Path.{_≡_}
-use mathlib.Core.List.{List}
-use lib.ListN.{take}
 use Rattle.stream.specs.declared.input.Got.{Got}
 use Rattle.stream.specs.declared.input.Got.the-variants.{Bytes, Failed}
 
@@ -10,7 +7,3 @@ use Rattle.stream.specs.declared.input.Got.the-variants.{Bytes, Failed}
 abbrev pub Within : ℕ → Got → Type 0
 Within room (Bytes n) = n ≤ room
 Within room Failed = Unit {0}
-
--- the first so many bytes stay as they were
-abbrev pub Kept : ℕ → List ℕ → List ℕ → Type 0
-Kept n before after = take n after ≡ take n before

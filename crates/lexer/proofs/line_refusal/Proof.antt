@@ -5,14 +5,14 @@ use borrow.Author.Needs.{needs}
 use Rattle.lexer.proofs.line_refusal.Statement.{statement}
 use Rattle.lexer.proofs.line_refusal.Tie as tie
 
-sub-new : tie.Need-sub-new
-sub-new c = search needs
+excess-requires : tie.Need-excess-requires
+excess-requires c κs = search needs
 
 new-requires : tie.Need-new-requires
 new-requires c κs = search needs
 
 returns : tie.Need-returns
-returns c = rw (lt-ltb 1024 _ (c .before .if1 .taken)) (c .new .ensures)
+returns c = rw (lt-ltb 1024 _ (c .before .before .if1 .taken), ← c .before .excess .ensures) (c .new .ensures)
 
 plain-length-requires : tie.Need-plain-length-requires
 plain-length-requires c κs = search needs
@@ -37,7 +37,7 @@ pub line-refusal-spec : {M : Type 1} → statement M
 line-refusal-spec =
     tie.close
     (tie.spec
-    sub-new
+    excess-requires
     new-requires
     returns
     plain-length-requires

@@ -19,7 +19,7 @@ use Rattle.number.proofs.Laws.Trim.{kept-le}
 use Rattle.lexitem.specs.declared.answer.Refusal.{Refusal}
 use Rattle.kind.specs.declared.Kind.{Kind}
 use Rattle.kind.specs.declared.Kind.the-variants.{Header, Remark}
-use Rattle.lexer.specs.Refusals.{Input, Test, Asking, kind, reads, another, plain, headerCut, remarkLong, missing, test, tests}
+use Rattle.lexer.specs.Refusals.{Input, Test, Asking, kind, reads, another, plain, excess, headerCut, remarkLong, missing, test, tests}
 use Rattle.lexer.specs.Refusals.Asking.{itsKind, itsRecord, recordAs}
 use Rattle.kind.specs.Kind.{numberOf}
 use Rattle.kind.proofs.Laws.Number.{number-tells, kind-known}
@@ -50,9 +50,9 @@ table-row i =
     (λ e. eqb-false (length (i .remarks)) 1000 (not-true (eqb (length (i .remarks)) 1000) e))
     (λ h. ap not (ne-eqb (length (i .remarks)) 1000 h))
 
-length-row : (i : Input) → Agrees (test (ltb 1024 (length (i .line))) 2 1024 (length (i .line) - 1024)) (lengthRule i)
+length-row : (i : Input) → Agrees (test (ltb 1024 (length (i .line))) 2 1024 (excess (length (i .line)))) (lengthRule i)
 length-row i =
-    by-test (test (ltb 1024 (length (i .line))) 2 1024 (length (i .line) - 1024))
+    by-test (test (ltb 1024 (length (i .line))) 2 1024 (excess (length (i .line))))
     (ltb-true 1024 (length (i .line)))
     (lt-ltb 1024 (length (i .line)))
 

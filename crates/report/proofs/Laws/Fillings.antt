@@ -1,7 +1,7 @@
 -- Filling after filling.
---     fill-room             what is put has room
 --     Left, fill-left       what is put, and then the reports of the lines that are left, are all of them
 --     fill-fewer            with room for any report a line at least is put
+--     filling-at            and no offset past the end is answered
 --     fillings-all          fillings from the first line on, in rooms of any size from 4,096 bytes up, are the reports of all lines of a file,
 --                           in order and numbered from 1
 -- Assumes nothing.
@@ -10,41 +10,21 @@ use mathlib.Core.Path.{_≡_, refl, sym, ap, _∙_}
 use mathlib.Core.Bool.{Bool, true, false, cond}
 use mathlib.Core.List.{List, [], _∷_, _++_, append-assoc}
 use native.Mathlib.Omega.{arith}
-use borrow.Author.Tests.{le-ltb, ltb-false}
-use lib.ListN.{length, take, drop, length-append, length-drop}
-use lib.Seq.{drop-drop, take-at}
+use borrow.Author.Tests.{le-ltb}
+use lib.ListN.{length, drop, length-drop}
+use lib.Seq.{drop-drop}
 use lib.Dec.{ltb}
 use Rattle.listing.specs.Listing.{longest}
 use Rattle.walker.specs.Lines.{linesOf, lineTaken, numberBehind}
 use Rattle.walker.proofs.Laws.Lines.{lines-first, lines-le}
+use Rattle.walker.proofs.Laws.Pieces.{taken-le}
 use Rattle.report.specs.Report.{report, inputOf}
-use Rattle.report.specs.Fill.{reportsFrom, Filling, stop, behind, fill, filling, Fills, fillings, Enough}
-use Rattle.report.specs.declared.fill.Filled.{Filled}
+use Rattle.report.specs.Fill.{reportsFrom, Filling, stop, behind, fill, filling, fillings, Enough}
 use Rattle.report.proofs.Laws.Room.{report-room}
 
 pub report-most : (number : ℕ) (l : List ℕ) → length (report number l) ≤ longest
 unfolding report
 report-most number l = report-room (inputOf number l)
-
--- ---- what is put has room
-pub fill-room : (room : ℕ) (f : List ℕ) (ls : List (List ℕ)) (at number : ℕ) → length (fill room f ls at number .text) ≤ room
-unfolding fill
-fill-room room f [] at number = omega arith
-fill-room room f (l ∷ ls) at number =
-    go (ltb room longest) refl (fill-room (room - length (report number l)) f ls (at + lineTaken (drop at f)) (numberBehind number))
-  where
-    go : (c : Bool) → ltb room longest ≡ c
-        → length (fill (room - length (report number l)) f ls (at + lineTaken (drop at f)) (numberBehind number) .text) ≤ room - length (report number l)
-        → length ((cond c (stop at number) (behind (report number l) (fill (room - length (report number l)) f ls (at + lineTaken (drop at f)) (numberBehind number)))) .text) ≤ room
-    go true e h = omega arith
-    go false e h =
-        let most = report-most number l in
-        let enough = ltb-false room longest e in
-        rw (length-append (report number l) (fill (room - length (report number l)) f ls (at + lineTaken (drop at f)) (numberBehind number) .text)) (omega arith)
-
-pub filling-room : (room : ℕ) (f : List ℕ) (at number : ℕ) → length (filling room f at number .text) ≤ room
-unfolding filling
-filling-room room f at number = fill-room room f (linesOf (drop at f)) at number
 
 -- ---- what is left
 -- behind the first of the lines from an offset on stand the others
@@ -116,17 +96,22 @@ filling-fewer room f at number enough inside h =
     let fewer = fill-fewer room f _ _ at number enough first (omega arith) in
     rw first (omega arith)
 
--- ---- lent bytes that were filled
-module _ {before : List ℕ} {t : Filling} {after : List ℕ} {r : Filled} (h : Fills before t after r) where
-  pub fills-front : take (r .n) after ≡ t .text
-  fills-front = rw (h .answer, h .bytes) (take-at (t .text) _ _ refl)
+-- ---- the offset behind it
+fill-at : (room : ℕ) (f : List ℕ) (ls : List (List ℕ)) (at number : ℕ) → at ≤ length f → fill room f ls at number .at ≤ length f
+unfolding fill
+fill-at room f [] at number h = h
+fill-at room f (l ∷ ls) at number h =
+    go (ltb room longest)
+    (fill-at (room - length (report number l)) f ls (at + lineTaken (drop at f)) (numberBehind number) (omega (arith, taken-le (drop at f), length-drop at f)))
+  where
+    go : (c : Bool) → fill (room - length (report number l)) f ls (at + lineTaken (drop at f)) (numberBehind number) .at ≤ length f
+        → (cond c (stop at number) (behind (report number l) (fill (room - length (report number l)) f ls (at + lineTaken (drop at f)) (numberBehind number)))) .at ≤ length f
+    go true g = h
+    go false g = g
 
-  pub fills-size : r .n ≡ length (take (r .n) after)
-  fills-size = ap (λ (x : Filled). x .n) (h .answer) ∙ ap length (sym fills-front)
-
-pub fills-within : (f : List ℕ) (at number : ℕ) (before after : List ℕ) (r : Filled) → Fills before (filling (length before) f at number) after r
-    → r .n ≤ length before
-fills-within f at number before after r h = rw (h .answer) (filling-room (length before) f at number)
+pub filling-at : (room : ℕ) (f : List ℕ) (number : ℕ) → filling room f 0 number .at ≤ length f
+unfolding filling
+filling-at room f number = fill-at room f (linesOf f) 0 number (omega arith)
 
 -- ---- filling after filling
 fillings-from : (rooms f : List ℕ) (at number : ℕ) (ls : List (List ℕ)) → Enough rooms → linesOf (drop at f) ≡ ls → length ls ≤ length rooms

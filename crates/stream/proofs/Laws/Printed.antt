@@ -1,39 +1,33 @@
--- What is printed for a file, and a turn of the loop that prints it: what is left to print are the reports of the lines that are left.
---     printed-long, printed-lines     what is printed for a file that is too long, and for any other
---     printed-short                   its bytes can be counted
---     Due, due-first                  so many bytes are printed, and the lines from an offset on are due; all of them at first
---     due-part, due-next              a filling is what stands there, and what is due behind it
---     due-fewer                       fewer lines are due then
---     due-all                         where no line is left, all is printed
+-- What is printed for a part, and a turn of the loop that prints it: what is left to print is what is put for the bytes that are left.
+--     part-short                      what there is to print for a part can be counted
+--     fed-front, fed-size, fed-within     what a turn put stands at the front of the lent bytes
+--     Due, due-first                  so many bytes are printed, and the part from an offset on is due; all of it at first
+--     due-part, due-next              a turn puts what stands there, and what is due behind it
+--     due-further                     the offset goes on, and not past the end
+--     due-all                         at the part's end all is printed, and what the part leaves is held
+--     last-text, last-within          at the end of the input
+--     came-first, came-next           part behind part
+--     comes-next, few-next            a read's part behind those before it
 -- Assumes nothing.
-use Prim.Native.Nat.{ℕ, suc, _+_, _-_, _*_, _≤_, _<_}
+use Prim.Native.Nat.{ℕ, suc, _+_, _-_, _*_, _^_, _≤_, _<_}
 use mathlib.Core.Path.{_≡_, refl, sym, ap, _∙_}
 use mathlib.Core.Bool.{Bool, true, false, cond}
 use mathlib.Core.List.{List, [], _∷_, _++_}
 use native.Mathlib.Omega.{arith}
-use borrow.Author.Tests.{lt-ltb, le-ltb, ltb-false}
-use lib.ListN.{length, take, drop, length-append, length-drop}
+use lib.ListN.{length, take, drop, length-append, length-take, length-drop, drop-of-length-le}
 use lib.Seq.{drop-drop, take-at, drop-at}
-use lib.Dec.{ltb}
-use Rattle.line.specs.Bytes.{bytes}
+use lib.Dec.{eqb, ltb}
 use Rattle.listing.specs.Listing.{longest}
-use Rattle.report.specs.Fill.{reportsFrom, Filling, filling, Fills}
-use Rattle.report.specs.declared.fill.Filled.{Filled}
-use Rattle.report.proofs.Laws.Fillings.{report-most, Left, filling-left, filling-fewer, fills-front}
-use Rattle.walker.specs.Lines.{linesOf}
-use Rattle.walker.proofs.Laws.Lines.{lines-le, end-lines}
-use Rattle.stream.specs.Printed.{most, printed, StandsBehind}
-
-pub printed-long : (f : List ℕ) → most < length f → printed f ≡ bytes "input=too-long\n"
-unfolding printed
-printed-long f h = rw (lt-ltb most (length f) h) refl
-
-pub long-stands : (f : List ℕ) → most < length f → StandsBehind (printed f) 0 (bytes "input=too-long\n")
-long-stands f h = rw (printed-long f h) (record { within = omega arith; bytes = refl })
-
-pub printed-lines : (f : List ℕ) → length f ≤ most → printed f ≡ reportsFrom 1 (linesOf f)
-unfolding printed
-printed-lines f h = rw (le-ltb most (length f) h) refl
+use Rattle.parts.specs.Feed.{Turn, turn, Feeds, Puts, ending, ends, behindLf, linesIn, freeText, partText, partState, partsState}
+use Rattle.parts.specs.Held.{State, mostKept, absorbed, endedSize, endedText, heldText, overRows, lastText}
+use Rattle.parts.specs.declared.Fed.{Fed}
+use Rattle.parts.proofs.Laws.Put.{over-few}
+use Rattle.parts.proofs.Laws.Turns.{Goes, turn-goes, turn-moves, turn-within, part-number, lines-in-le}
+use Rattle.report.specs.Fill.{reportsFrom}
+use Rattle.report.specs.Report.{report}
+use Rattle.report.proofs.Laws.Fillings.{report-most}
+use Rattle.stream.specs.Printed.{most, start, Came, Comes, Stands}
+use Rattle.walker.specs.Lines.{beforeLf}
 
 -- ---- its length
 reports-short : (number : ℕ) (ls : List (List ℕ)) → length (reportsFrom number ls) ≤ longest * length ls
@@ -44,79 +38,156 @@ reports-short number (l ∷ ls) =
     let rest = reports-short (suc number) ls in
     rw (length-append _ (reportsFrom (suc number) ls)) (omega arith)
 
-pub printed-short : (f : List ℕ) → length (printed f) ≤ longest * most
-unfolding printed
-printed-short f = go (ltb most (length f)) refl
+held-short : (number size : ℕ) (kept : List ℕ) → length (heldText number size kept) ≤ longest
+unfolding heldText
+held-short number size kept = go (ltb mostKept size)
   where
-    go : (c : Bool) → ltb most (length f) ≡ c → length (cond c (bytes "input=too-long\n") (reportsFrom 1 (linesOf f))) ≤ longest * most
-    go true e = omega arith
-    go false e =
-        let lines = lines-le f in
-        let all = reports-short 1 (linesOf f) in
-        let within = ltb-false most (length f) e in
-        omega arith
+    go : (c : Bool) → length (cond c (overRows number size) (report number (take size kept))) ≤ longest
+    go true = over-few number size
+    go false = report-most number (take size kept)
+
+part-short : (s : State) (t : List ℕ) → length (partText s t) ≤ longest * (1 + length t)
+unfolding partText
+part-short s t = go (ends t) (eqb (s .held .total) 0)
+  where
+    go : (c z : Bool)
+        → length (cond c (cond z (freeText (s .held .number) t) (endedText (absorbed s t) ++ freeText (suc (s .held .number)) (behindLf t))) [])
+        ≤ longest * (1 + length t)
+    go false z = omega arith
+    go true true = omega (arith, reports-short (s .held .number) (linesIn t), lines-in-le t)
+    go true false =
+        let first = held-short (absorbed s t .held .number) (endedSize (absorbed s t .held)) (absorbed s t .kept) in
+        let rest = reports-short (suc (s .held .number)) (linesIn (behindLf t)) in
+        rw (length-append (endedText (absorbed s t)) (freeText (suc (s .held .number)) (behindLf t)))
+        (omega (arith, first, rest, lines-in-le (behindLf t), length-drop (suc (beforeLf t)) t))
+
+-- ---- what a turn put
+module _ {x : Turn} {at : ℕ} {before after kept : List ℕ} {r : Fed} (f : Feeds x at before after kept r) where
+  pub fed-front : take (r .n) after ≡ x .text
+  fed-front = rw (f .answer, f .bytes) (take-at (x .text) _ _ refl)
+
+  pub fed-size : r .n ≡ length (take (r .n) after)
+  fed-size = ap (λ (y : Fed). y .n) (f .answer) ∙ ap length (sym fed-front)
+
+  pub fed-within : length after ≡ length before → r .n ≤ length before
+  fed-within e =
+      let n = ap (λ (y : Fed). y .n) (f .answer) in
+      let all = ap length (f .bytes) ∙ length-append (x .text) (drop (length (x .text)) before) in
+      omega (arith, length-drop (length (x .text)) before)
 
 -- ---- a turn
-pub record Due (f : List ℕ) (at number done : ℕ) : Type 0 where
-  pub rest : drop done (printed f) ≡ reportsFrom number (linesOf (drop at f))
-  pub within : done ≤ length (printed f)
-  pub few : number + length (linesOf (drop at f)) ≤ most + 1
+pub record Due (s₀ : State) (part : List ℕ) (s : State) (at done : ℕ) : Type 0 where
+  pub rest : drop done (partText s₀ part) ≡ partText s (drop at part)
+  pub within : done ≤ length (partText s₀ part)
+  pub leaves : partState s (drop at part) ≡ partState s₀ part
+  pub inside : at ≤ length part
 
-pub due-first : (f : List ℕ) → length f ≤ most → Due f 0 1 0
-due-first f h =
-    let lines = lines-le f in
-    record { rest = printed-lines f h; within = omega arith; few = omega arith }
+pub due-first : (s : State) (part : List ℕ) → Due s part s 0 0
+due-first s part = record { rest = refl; within = omega arith; leaves = refl; inside = omega arith }
 
-pub due-all : (f : List ℕ) (at number done : ℕ) → Due f at number done → length f ≤ at → done ≡ length (printed f)
-unfolding reportsFrom
-due-all f at number done h e =
-    let none : drop done (printed f) ≡ [] = h .rest ∙ ap (reportsFrom number) (end-lines f at e) in
-    let left = ap length none in
-    let size = length-drop done (printed f) in
+pub due-all : (s₀ : State) (part : List ℕ) (s : State) (at done : ℕ) → Due s₀ part s at done → length part ≤ at
+    → (s ≡ partState s₀ part) × (done ≡ length (partText s₀ part))
+unfolding partText partState absorbed beforeLf
+due-all s₀ part s at done h l =
+    let none = drop-of-length-le part {i = at} l in
+    let left : drop done (partText s₀ part) ≡ [] = h .rest ∙ rw none refl in
+    let size = length-drop done (partText s₀ part) in
+    let zero = ap length left in
     let within = h .within in
-    omega arith
+    (sym (rw none refl) ∙ h .leaves, omega arith)
 
--- what is left to print begins with what was put
-module _ (f : List ℕ) (at number done : ℕ) (h : Due f at number done) (t : Filling) (left : Left f number (linesOf (drop at f)) t) where
-  begins : drop done (printed f) ≡ t .text ++ reportsFrom (t .number) (linesOf (drop (t .at) f))
-  begins = h .rest ∙ left .text
+module _ (s₀ : State) (part : List ℕ) (comes : Comes s₀ part) (s : State) (at done : ℕ) (h : Due s₀ part s at done) (before after kept : List ℕ) (r : Fed)
+    (f : Feeds (turn (length before) s (drop at part)) at before after kept r) where
+  abbrev x : Turn
+  x = turn (length before) s (drop at part)
 
-  ends : done + length (t .text) ≤ length (printed f)
-  ends =
+  numbers : partState s (drop at part) .held .number < 2 ^ 64
+  numbers =
+      let few = comes .few in
+      let same = ap (λ (y : State). y .held .number) (h .leaves) in
+      omega (arith, part-number s₀ part)
+
+  goes : Goes s (drop at part) x
+  goes = turn-goes (length before) s (drop at part) numbers
+
+  begins : drop done (partText s₀ part) ≡ x .text ++ partText (x .state) (drop (x .taken) (drop at part))
+  begins = h .rest ∙ goes .text
+
+  reaches : done + length (x .text) ≤ length (partText s₀ part)
+  reaches =
       let within = h .within in
-      let size = length-drop done (printed f) in
-      let all = ap length begins in
-      let parts = length-append (t .text) (reportsFrom (t .number) (linesOf (drop (t .at) f))) in
+      let size = length-drop done (partText s₀ part) in
+      let all = ap length begins ∙ length-append (x .text) (partText (x .state) (drop (x .taken) (drop at part))) in
       omega arith
 
-  stands : StandsBehind (printed f) done (t .text)
-  stands = record { within = ends; bytes = rw begins (sym (take-at (t .text) _ _ refl)) }
+  pub due-part : Stands (partText s₀ part) done (take (r .n) after)
+  due-part =
+      let size = comes .size in
+      rw (fed-front f) (record {
+        within = reaches;
+        bytes = rw begins (sym (take-at (x .text) _ _ refl));
+        short = omega (arith, part-short s₀ part);
+      })
 
-  goes-on : Due f (t .at) (t .number) (done + length (t .text))
-  goes-on =
-      let sum = left .sum in
-      let few = h .few in
-      record {
+  further : x .taken ≤ length (drop at part)
+  further = turn-within (length before) s (drop at part) numbers
+
+  pub due-next : (all : ℕ) → all ≡ done + length (take (r .n) after) → Due s₀ part (record { held = r .held; kept = kept }) (r .at) all
+  due-next all e =
+      let inside = h .inside in
+      let rest = drop-drop (x .taken) at part in
+      let state : _≡_ {A = State} (record { held = r .held; kept = kept }) (x .state) = rw (f .answer, f .keeps) refl in
+      let offset = ap (λ (y : Fed). y .at) (f .answer) in
+      rw (e, fed-front f, state, offset) (record {
         rest =
-            sym (drop-drop (length (t .text)) done (printed f)) ∙ ap (drop (length (t .text))) begins
-            ∙ drop-at (t .text) (reportsFrom (t .number) (linesOf (drop (t .at) f))) (length (t .text)) refl;
-        within = ends;
-        few = omega arith;
-      }
+            sym (drop-drop (length (x .text)) done (partText s₀ part)) ∙ ap (drop (length (x .text))) begins
+            ∙ drop-at (x .text) (partText (x .state) (drop (x .taken) (drop at part))) (length (x .text)) refl
+            ∙ ap (partText (x .state)) rest;
+        within = reaches;
+        leaves = ap (partState (x .state)) (sym rest) ∙ sym (goes .state) ∙ h .leaves;
+        inside = omega (arith, further, length-drop at part);
+      })
 
--- the same, in what filling lent bytes from a number k on answers
-module _ (f : List ℕ) (at number done : ℕ) (h : Due f at number done) (k : ℕ) (same : k ≡ number) (before after : List ℕ) (r : Filled)
-    (fills : Fills before (filling (length before) f at k) after r) where
-  left : Left f number (linesOf (drop at f)) (filling (length before) f at k)
-  left = let few = h .few in rw same (filling-left (length before) f at number (omega arith))
+  pub due-further : longest ≤ length before → at < length part → at < r .at
+  due-further enough inside =
+      let offset = ap (λ (y : Fed). y .at) (f .answer) in
+      omega (arith, turn-moves (length before) s (drop at part) numbers enough (omega (arith, length-drop at part)))
 
-  pub due-part : StandsBehind (printed f) done (take (r .n) after)
-  due-part = rw (fills-front fills) (stands f at number done h (filling (length before) f at k) left)
+-- ---- at the end of the input
+module _ (s : State) (before after : List ℕ) (n : ℕ) (enough : length before ≡ longest) (p : Puts (ending (length before) s) before after n) where
+  pub last-text : take n after ≡ lastText s
+  last-text =
+      let q : Puts (lastText s) before after n = rw enough at p in
+      rw (q .count, q .bytes) (take-at (lastText s) _ _ refl)
 
-  pub due-next : (all : ℕ) → all ≡ done + length (take (r .n) after) → Due f (r .at) (r .number) all
-  due-next all e = rw (e, fills-front fills, fills .answer) (goes-on f at number done h (filling (length before) f at k) left)
+  pub last-within : length after ≡ length before → n ≤ length before
+  last-within e =
+      let q : Puts (lastText s) before after n = rw enough at p in
+      let count = q .count in
+      let all = ap length (q .bytes) ∙ length-append (lastText s) (drop (length (lastText s)) before) in
+      omega (arith, length-drop (length (lastText s)) before)
 
-  pub due-fewer : longest ≤ length before → at < length f → length (linesOf (drop (r .at) f)) < length (linesOf (drop at f))
-  due-fewer enough inside =
-      let few = h .few in
-      rw (fills .answer, same) (filling-fewer (length before) f at number enough inside (omega arith))
+-- ---- part behind part
+states-append : (s : State) (ps : List (List ℕ)) (a : List ℕ) → partsState s (ps ++ a ∷ []) ≡ partState (partsState s ps) a
+unfolding partsState
+states-append s [] a = refl
+states-append s (b ∷ ps) a = states-append (partState s b) ps a
+
+pub came-first : Came start
+unfolding partsState
+came-first = record { parts = []; leave = refl }
+
+pub came-next : (s t : State) (part : List ℕ) → Came s → t ≡ partState s part → Came t
+came-next s t part c e =
+    record { parts = c .parts ++ part ∷ []; leave = e ∙ ap (λ (y : State). partState y part) (c .leave) ∙ sym (states-append start (c .parts) part) }
+
+-- a read's part comes behind those before it, while there are numbers for its lines and for those of all reads that are left
+module _ (s : State) (space : List ℕ) (n turns : ℕ) (came : Came s) (few : s .held .number + most * turns < 2 ^ 64) (some : 0 < turns)
+    (size : length space ≡ most) where
+  pub comes-next : Comes s (take n space)
+  comes-next = record { came = came; size = omega (arith, length-take n space); few = omega (arith, length-take n space) }
+
+  pub few-next : (t : State) → t ≡ partState s (take n space) → t .held .number + most * (turns - 1) < 2 ^ 64
+  few-next t e =
+      let number = ap (λ (y : State). y .held .number) e in
+      omega (arith, part-number s (take n space), length-take n space)

@@ -8,10 +8,10 @@ use Rattle.stream.proofs.input.read_some.Statement.{statement}
 use Rattle.stream.proofs.input.read_some.Tie as tie
 
 abbrev Inv-loop : tie.InvT-loop
-Inv-loop space₀ turns₀ space turns = length space ≡ length space₀
+Inv-loop fd space₀ turns₀ space turns = length space ≡ length space₀
 
 abbrev μ-loop : tie.MeasureT-loop
-μ-loop space₀ turns₀ space turns = turns
+μ-loop fd space₀ turns₀ space turns = turns
 
 loop-holds : tie.Need-loop-holds Inv-loop μ-loop
 loop-holds c = search needs

@@ -1,0 +1,10 @@
+-- Laws that the functions' proofs cite, and what follows from the contracts.
+pub mod Pieces
+pub mod Whole
+pub mod Keep
+pub mod Held
+pub mod Put
+pub mod Turn
+pub mod Turns
+pub mod Parts
+pub mod One
