@@ -65,6 +65,7 @@ contracts:
 	@tests/promises.sh
 	@tests/believed.sh
 	@tests/house.sh
+	@tests/margins.sh
 
 hosts: $(program) $(checker) $(library)
 	@tests/run.sh

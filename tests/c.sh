@@ -1,9 +1,9 @@
 #!/bin/bash
-# The C face from C: the edges of its entries, the kinds of drawn lines beside the rule, what is written beside what printf writes, what is moved
-# beside C's own doubles, how many decimals were read beside how many were drawn, files held against their MASTER lines beside a count of C's own,
-# the example hosts on the sample file and on made ones, and an installation as a C programmer uses it. All is compiled for x86-64, as the library
-# is. Wants target/staticlib/libsaltighedda.a, target/bin/pdblist and target/bin/pdbmaster. Prints a line for each thing that holds; the status is
-# 1 if one doesn't.
+# The C face from C: the edges of its entries, the kinds of drawn lines beside the rule, the columns that don't matter and those that do, what is
+# written beside what printf writes, what is moved beside C's own doubles, how many decimals were read beside how many were drawn, files held
+# against their MASTER lines beside a count of C's own, the example hosts on the sample file and on made ones, and an installation as a C
+# programmer uses it. All is compiled for x86-64, as the library is. Wants target/staticlib/libsaltighedda.a, target/bin/pdblist and
+# target/bin/pdbmaster. Prints a line for each thing that holds; the status is 1 if one doesn't.
 set -eu
 cd "$(dirname "${BASH_SOURCE[0]}")/.."
 . tests/have.sh
@@ -280,6 +280,10 @@ echo "c: drawn lines have the kinds that the rule gives them, and their listings
 $CC $warned -Iinclude -o "$folder/modes" tests/modes.c target/staticlib/libsaltighedda.a
 "$run" "$folder/modes" || fail "a line isn't read in wwPDB mode as the header says"
 echo "c: drawn lines are read in wwPDB mode by its three rules, and all others as in crate mode"
+
+$CC $warned -Iinclude -o "$folder/margins" tests/margins.c target/staticlib/libsaltighedda.a
+"$run" "$folder/margins" docs/MARGINS.md || fail "a free column matters, or another doesn't"
+echo "c: bytes in the free columns of docs/MARGINS.md change no answer, a thousand pairs for each, and in every other that is read some byte does"
 
 $CC $warned -Iinclude -o "$folder/host" examples/host.c target/staticlib/libsaltighedda.a
 told "$run" "$folder/host"

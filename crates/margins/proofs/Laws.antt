@@ -1,0 +1,9 @@
+-- The theorems.
+pub mod Parts
+pub mod Entries
+pub mod Records
+pub mod Tests
+pub mod Margins
+pub mod Texts
+pub mod Views
+pub mod Free
