@@ -44,6 +44,7 @@ extern "C" {
 #define SALTIGHEDDA_ATOMS_ONLY UINT32_C(1) /* every kind but ATOM, HETATM, MODEL, ENDMDL, TER and END is EMPTY */
 #define SALTIGHEDDA_LOOSE      UINT32_C(2) /* lets remarks of 80 bytes and more pass */
 #define SALTIGHEDDA_WWPDB      UINT32_C(4) /* wwPDB mode */
+#define SALTIGHEDDA_EXPONENTS  UINT32_C(8) /* reals may have an exponent */
 
 /*
  * Lines are read as the Rust crate pdbtbx reads them, unless wwPDB mode is asked for. It reads three things as wwPDB 3.30 prints
@@ -53,6 +54,12 @@ extern "C" {
  *     of the line, and its row is f6)
  *     DBREF1's end stands in 20..24: its row is f20 (else it is 21..24 and f21, and an end of 1234 reads as 234)
  *     a line of the six bytes ENDMDL is ENDMDL (else it is END)
+ *
+ * A real is a plain decimal: a sign or none, digits, a point or none, digits. With SALTIGHEDDA_EXPONENTS it may also be one of these
+ * and then `e` or `E`, a sign or none, and digits, as some programs write temperature factors: 1.2E2. With x the exponent and p the
+ * digits behind the point it is read if x - p lies from -22 to 22, or if all digits before the letter are 0; the double is the one
+ * nearest to the number, a tie to the even last bit. All else has fault 2, infinities and NaN too. Plain decimals are read alike with
+ * the option and without, and ANISOU's six are whole numbers, which take no exponent.
  */
 
 /* An output of so many bytes has room for every listing. */
@@ -134,8 +141,9 @@ static inline const char *saltighedda_kind_name(uint64_t kind)
  * SSBOND of 78 bytes or more has one. ANISOU's six are whole numbers and have none. Returns 0 if the record has none, if `out` has
  * fewer bytes than there are, or if saltighedda_list would refuse the line whatever the room; all of `out` is then as it was.
  *
- * The bytes are what the entries below take as `places`: a record that is written with them has in each real that was read the same
- * sign, digits and places, or is refused.
+ * The bytes are what the entries below take as `places`: a record that is written with them has in each real that was read, and that
+ * has no exponent, the same sign, digits and places, or is refused. Of a real with an exponent the digits before it count, and it goes
+ * out as a plain decimal of so many places, which needn't say the same number.
  */
 size_t saltighedda_places(const uint8_t *line, size_t line_len, size_t number, uint32_t options,
                           const uint8_t *remarks, size_t remarks_len, uint8_t *out, size_t out_len);

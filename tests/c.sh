@@ -1,8 +1,8 @@
 #!/bin/bash
 # The C face from C: the edges of its entries, the kinds of drawn lines beside the rule, the columns that don't matter and those that do, what is
-# written beside what printf writes, what is moved beside C's own doubles, how many decimals were read beside how many were drawn, files held
-# against their MASTER lines beside a count of C's own, the example hosts on the sample file and on made ones, and an installation as a C
-# programmer uses it. All is compiled for x86-64, as the library is. Wants target/staticlib/libsaltighedda.a, target/bin/pdblist and
+# written beside what printf writes, what is moved beside C's own doubles, how many decimals were read beside how many were drawn, exponents
+# beside whole numbers and strtod, files held against their MASTER lines beside a count of C's own, the example hosts on the sample file and on
+# made ones, and an installation as a C programmer uses it. All is compiled for x86-64, as the library is. Wants target/staticlib/libsaltighedda.a, target/bin/pdblist and
 # target/bin/pdbmaster. Prints a line for each thing that holds; the status is 1 if one doesn't.
 set -eu
 cd "$(dirname "${BASH_SOURCE[0]}")/.."
@@ -304,6 +304,10 @@ $CC $warned -Iinclude -o "$folder/places" tests/places.c target/staticlib/libsal
 "$run" "$folder/places" || fail "places aren't as the header says"
 echo "c: a million drawn fields have the places that were written, and come back digit for digit"
 
+$CC $warned -O2 -Iinclude -o "$folder/exponents" tests/exponents.c target/staticlib/libsaltighedda.a
+"$run" "$folder/exponents" 1000000 > "$folder/told" || { cat "$folder/told"; fail "an exponent isn't read as the header says"; }
+echo "c: a million drawn texts with exponents are read as whole numbers and as strtod say"
+
 $CC $warned -Iinclude -o "$folder/master" tests/master.c target/staticlib/libsaltighedda.a
 "$run" "$folder/master" || fail "a file isn't held against its MASTER line as the header says"
 echo "c: files are held against their MASTER lines as the header says, twenty thousand drawn ones as another count has them"
@@ -359,6 +363,7 @@ else
     transformed 1 1 $memory "$folder/transform"
     transformed 2 2 $memory "$folder/transform"
     $memory "$folder/places" 5000 || fail "valgrind found a fault in the use of memory"
+    $memory "$folder/exponents" 5000 > "$folder/told" || fail "valgrind found a fault in the use of memory"
     $memory "$folder/master" 500 || fail "valgrind found a fault in the use of memory"
     rewritten same.pdb 0 $memory "$folder/rewrite"
     rewritten other.pdb 1 $memory "$folder/rewrite"

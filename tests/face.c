@@ -52,6 +52,13 @@ static struct answer ask_text(const char *text, uint32_t options)
     return ask((const uint8_t *)text, strlen(text), options, sizeof remarks, sizeof out);
 }
 
+static int shows(const char *text, uint32_t options, const char *row)
+{
+    struct answer a = ask_text(text, options);
+    out[a.written < sizeof out ? a.written : sizeof out - 1] = 0;
+    return strstr((const char *)out, row) != NULL;
+}
+
 static int is(struct answer a, size_t number, size_t place, size_t length)
 {
     return a.written == 0 && a.number == number && a.place == place && a.length == length;
@@ -87,6 +94,10 @@ int main(void)
     hold(lists(ask_text("HEADER    A", SALTIGHEDDA_ATOMS_ONLY), empty), "atoms only makes HEADER empty");
     hold(is(ask_text(remark, 0), 5, 80, 10), "a long REMARK");
     hold(is(ask_text(remark, ~SALTIGHEDDA_LOOSE & ~SALTIGHEDDA_ATOMS_ONLY), 5, 80, 10), "the other bits have no effect");
+    hold(shows("SCALE1           1e5", 0, "\nf10=0000000000000000\n"), "an exponent isn't read without its bit");
+    hold(shows("SCALE1           1e5", ~SALTIGHEDDA_EXPONENTS & ~SALTIGHEDDA_ATOMS_ONLY, "\nf10=0000000000000000\n"),
+         "the other bits don't take exponents");
+    hold(shows("SCALE1           1e5", SALTIGHEDDA_EXPONENTS, "\nf10=40F86A0000000000\n"), "bit 3 takes exponents");
     hold(ask_text(remark, SALTIGHEDDA_LOOSE).number == 0, "loose lets a long REMARK pass");
     return failures != 0;
 }

@@ -19,7 +19,7 @@ pub enum Class {
     ShortHeader,
     /// Shorter than refusal 6 asks.
     ShortLine,
-    /// A real field with an exponent.
+    /// A real field with an exponent, where the option for them is off or it is out of reach.
     Exponent,
     /// A real field with an infinity as text.
     Infinity,
@@ -34,13 +34,14 @@ pub const CLASSES: [(Class, &str); 9] = [
     (Class::HighByte, "a byte of 128 or more"),
     (Class::ShortHeader, "HEADER under 11"),
     (Class::ShortLine, "too short (6)"),
-    (Class::Exponent, "real with an exponent"),
+    (Class::Exponent, "real with an exponent that isn't read"),
     (Class::Infinity, "real infinity as text"),
     (Class::NotANumber, "real NaN as text"),
 ];
 
-/// The class of a line of this kind, given the lent table's length.
-pub fn class_of(line: &[u8], kind: usize, table_length: usize) -> Class {
+/// The class of a line of this kind, given the lent table's length, and whether exponents are
+/// taken: then the domain takes in the texts that are read.
+pub fn class_of(line: &[u8], kind: usize, table_length: usize, exponents: bool) -> Class {
     if table_length != 1000 {
         return Class::WrongTable;
     }
@@ -56,20 +57,24 @@ pub fn class_of(line: &[u8], kind: usize, table_length: usize) -> Class {
     if line.len() < KINDS[kind].least {
         return Class::ShortLine;
     }
-    outside_reals(line, kind)
-        .map(|field| real_class(&line[field.start..field.end]))
+    outside_reals(line, kind, exponents)
+        .map(|field| real_class(&line[field.start..field.end], exponents))
         .min()
         .unwrap_or(Class::Domain)
 }
 
 /// The real fields that put a line outside the domain.
-pub fn outside_reals(line: &[u8], kind: usize) -> impl Iterator<Item = &'static Field> + '_ {
+pub fn outside_reals(
+    line: &[u8],
+    kind: usize,
+    exponents: bool,
+) -> impl Iterator<Item = &'static Field> + '_ {
     columns::reals(line, kind)
-        .filter(|field| real_class(&line[field.start..field.end]) != Class::Domain)
+        .filter(move |field| real_class(&line[field.start..field.end], exponents) != Class::Domain)
 }
 
-/// Whether a real field's text is a number with an exponent, an infinity or a NaN.
-fn real_class(field: &[u8]) -> Class {
+/// Whether a real field's text is a number with an exponent that isn't read, an infinity or a NaN.
+fn real_class(field: &[u8], exponents: bool) -> Class {
     if !field.iter().any(|byte| matches!(byte, b'e' | b'E' | b'n' | b'N')) {
         return Class::Domain;
     }
@@ -84,27 +89,35 @@ fn real_class(field: &[u8]) -> Class {
     if text.eq_ignore_ascii_case(b"nan") {
         return Class::NotANumber;
     }
-    if has_exponent(text) {
-        return Class::Exponent;
+    match has_exponent(text) {
+        Some(in_reach) if !(exponents && in_reach) => Class::Exponent,
+        _ => Class::Domain,
     }
-    Class::Domain
 }
 
 /// Digits, an optional point, digits, with at least one digit; then `e` or `E`, an optional sign
-/// and at least one digit.
-fn has_exponent(text: &[u8]) -> bool {
+/// and at least one digit. If the text is that: whether x less the digits behind the point lies
+/// from -22 to 22, or all digits before the letter are 0.
+fn has_exponent(text: &[u8]) -> Option<bool> {
     let (whole, rest) = digits(text);
     let (part, rest) = match rest {
         [b'.', rest @ ..] => digits(rest),
         _ => (0, rest),
     };
-    let rest = match rest {
-        [b'e' | b'E', b'+' | b'-', rest @ ..] => rest,
-        [b'e' | b'E', rest @ ..] => rest,
-        _ => return false,
+    let number = &text[..text.len() - rest.len()];
+    let (minus, rest) = match rest {
+        [b'e' | b'E', sign @ (b'+' | b'-'), rest @ ..] => (*sign == b'-', rest),
+        [b'e' | b'E', rest @ ..] => (false, rest),
+        _ => return None,
     };
-    let (exponent, rest) = digits(rest);
-    whole + part > 0 && exponent > 0 && rest.is_empty()
+    let (count, after) = digits(rest);
+    if whole + part == 0 || count == 0 || !after.is_empty() {
+        return None;
+    }
+    let zero = number.iter().all(|byte| matches!(byte, b'0' | b'.'));
+    let size = rest.iter().fold(0i64, |sum, byte| sum * 10 + i64::from(byte - b'0'));
+    let reach = if minus { -size } else { size } - part as i64;
+    Some(zero || (-22..=22).contains(&reach))
 }
 
 fn digits(text: &[u8]) -> (usize, &[u8]) {

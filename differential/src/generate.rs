@@ -16,7 +16,8 @@ mod texts;
 pub struct Input {
     pub line: Vec<u8>,
     pub number: usize,
-    /// Bit 0 atoms only, bit 1 loose.
+    /// Bit 0 atoms only, bit 1 loose, bit 3 exponents. Bit 2 would be wwPDB mode, which the Rust
+    /// doesn't have.
     pub options: u32,
     /// The remark table, as its place in `Tables`.
     pub table: usize,
@@ -54,7 +55,14 @@ impl Input {
     pub fn loose(&self) -> bool {
         self.options / 2 % 2 == 1
     }
+
+    pub fn exponents(&self) -> bool {
+        self.options / 8 % 2 == 1
+    }
 }
+
+/// The bit of the options that takes exponents.
+pub const EXPONENTS: u32 = 8;
 
 /// Room for every listing.
 pub const ROOM: usize = 4096;
@@ -75,15 +83,19 @@ pub struct Plan {
     counted: Vec<(Section, u64)>,
     /// The sections that are drawn from, with their shares in a hundred.
     drawn: &'static [Section],
+    /// Whether every second case takes exponents.
+    exponents: bool,
 }
 
 impl Plan {
     /// Lines to list.
     pub fn new(seed: u64, count: u64, files: Vec<Vec<u8>>) -> Self {
-        Plan::over(counted::sections(), drawn::SECTIONS, seed, count, files)
+        let plan = Plan::over(counted::sections(), drawn::SECTIONS, seed, count, files);
+        Plan { exponents: true, ..plan }
     }
 
-    /// Lines whose records are written.
+    /// Lines whose records are written. They take no exponents: the promise of the same bits is for
+    /// fields without one.
     pub fn records(seed: u64, count: u64, files: Vec<Vec<u8>>) -> Self {
         Plan::over(records::sections(), records::SECTIONS, seed, count, files)
     }
@@ -111,6 +123,7 @@ impl Plan {
             files,
             counted: sections.into_iter().map(|section| (section, section.1.min(share))).collect(),
             drawn,
+            exponents: false,
         }
     }
 
@@ -130,7 +143,13 @@ impl Plan {
     /// Makes one case, but for its task.
     pub fn make(&self, index: u64, input: &mut Input) {
         let mut random = Random::new(self.seed, index);
-        let random = &mut random;
+        self.make_with(index, input, &mut random);
+        if self.exponents && random.percent(50) {
+            input.options |= EXPONENTS;
+        }
+    }
+
+    fn make_with(&self, index: u64, input: &mut Input, random: &mut Random) {
         input.line.clear();
         input.number = line_number(random);
         input.options = random.pick(&[0, 0, 0, 0, 2, 2, 2, 1, 3]);

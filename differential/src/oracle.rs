@@ -64,7 +64,7 @@ impl Oracle {
         let line = input.line.as_slice();
         let table = tables.bytes(input.table);
         let kind = kind_of(line, input.atoms_only());
-        let class = class_of(line, kind, table.len());
+        let class = class_of(line, kind, table.len(), input.exponents());
         let mut verdict = Verdict {
             kind,
             class,
@@ -152,7 +152,7 @@ impl Oracle {
     fn ask_masked(&mut self, input: &Input, kind: usize) -> Reply {
         self.masked.clear();
         self.masked.extend_from_slice(&input.line);
-        for field in outside_reals(&input.line, kind) {
+        for field in outside_reals(&input.line, kind, input.exponents()) {
             self.masked[field.start..field.end].fill(b'x');
         }
         let text = String::from_utf8_lossy(&self.masked);

@@ -2,7 +2,7 @@
 
 use crate::columns::KINDS;
 use crate::compare::Seen;
-use crate::domain::{Class, CLASSES};
+use crate::domain::{class_of, Class, CLASSES};
 use crate::generate::{Input, ROOM};
 use crate::oracle::{Did, Oracle, Verdict};
 use crate::page::Page;
@@ -79,6 +79,8 @@ pub struct Tally {
     /// Faults 2 by the sort that they name, in the domain.
     sorts: [u64; 4],
     options: [u64; 4],
+    /// Lines that are read with exponents, and those of them in the domain with one written.
+    exponents: [u64; 2],
     pub findings: BTreeMap<&'static str, (u64, Option<Shown>)>,
     longest: usize,
 }
@@ -98,6 +100,12 @@ impl Tally {
             keep_smaller(&mut panics.smallest, input, "");
         }
         self.options[(input.options % 4) as usize] += 1;
+        if input.exponents() {
+            self.exponents[0] += 1;
+            let without = class_of(&input.line, verdict.kind, 1000, false);
+            let written = verdict.class == Class::Domain && without == Class::Exponent;
+            self.exponents[1] += u64::from(written);
+        }
         if verdict.class == Class::Domain {
             let answer = match refusal {
                 0 if verdict.faults.iter().all(|count| *count == 0) => 0,
@@ -169,6 +177,7 @@ impl Tally {
         add_all(&mut self.faults, &other.faults);
         add_all(&mut self.sorts, &other.sorts);
         add_all(&mut self.options, &other.options);
+        add_all(&mut self.exponents, &other.exponents);
         for (finding, (count, shown)) in other.findings {
             let (sum, smallest) = self.findings.entry(finding).or_default();
             *sum += count;
@@ -203,6 +212,10 @@ impl Tally {
         println!(
             "options: none {}, atoms only {}, loose {}, both {}",
             self.options[0], self.options[1], self.options[2], self.options[3]
+        );
+        println!(
+            "with exponents {}, and one that is read stands in {}",
+            self.exponents[0], self.exponents[1]
         );
 
         println!("\nOutside of it, by class:");
@@ -296,11 +309,12 @@ pub fn described(input: &Input, tables: &Tables) -> String {
         }
     }
     format!(
-        "[{}] {} bytes; atoms only {}, loose {}, table: {}, line number {}, output {}",
+        "[{}] {} bytes; atoms only {}, loose {}, exponents {}, table: {}, line number {}, output {}",
         String::from_utf8_lossy(&page.bytes),
         input.line.len(),
         u8::from(input.atoms_only()),
         u8::from(input.loose()),
+        u8::from(input.exponents()),
         tables.all[input.table].name,
         input.number,
         input.room

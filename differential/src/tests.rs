@@ -233,6 +233,26 @@ fn refusals() {
 }
 
 #[test]
+fn exponents() {
+    let listed = |text: &str, options: u32| {
+        let mut input = Input::new();
+        input.line = format!("SCALE1    {text:>10}").into_bytes();
+        input.options = options;
+        answer(&input).1
+    };
+    assert!(listed("1e5", 0).contains("f10=0000000000000000\n"));
+    assert!(listed("1e5", 0).contains("fault=2,10,10\n"));
+    assert!(listed("1e5", 8).contains("f10=40F86A0000000000\n"));
+    for text in ["1e22", "1.0e23", "1e-22", "0e99999999", "-0E5", "1E+05", "5.e0"] {
+        assert!(!listed(text, 8).contains("fault=2,"), "{text}");
+    }
+    for text in ["1e23", "1.0e24", "1e-23", ".5e-22", "1e999", "inf", "nan", "1e", "1e+", ".e1"] {
+        assert!(listed(text, 8).contains("f10=0000000000000000\n"), "{text}");
+        assert!(listed(text, 8).contains("fault=2,10,10\n"), "{text}");
+    }
+}
+
+#[test]
 fn fault_5_follows_fault_2() {
     let mut input = Input::new();
     input.line = b"REMARK   x".to_vec();

@@ -3,7 +3,7 @@
 -- "Faults stand in ascending columns, except that ATOM puts 30..66 and ANISOU 28..70 first."
 use Prim.Native.Nat.{ℕ}
 use mathlib.Core.Path.{_≡_}
-use mathlib.Core.Bool.{Bool, true}
+use mathlib.Core.Bool.{Bool, true, false}
 use mathlib.Core.List.{List, [], _∷_, _++_}
 use Rattle.field.specs.Charge.{chargeAt}
 use Rattle.field.specs.Number.{unsignedAt, signedAt, realAt, placesAt, factorAt, zeroReal, oneReal}
@@ -86,7 +86,7 @@ factorsTable = a (at u11) ∷ a (at u22) ∷ a (at u33) ∷ a (at u12) ∷ a (at
 abbrev pub anisouTable : List Entry
 anisouTable = factorsTable ++ basicsTable
 
--- ---- the records
+-- ---- the records; whether a real may have an exponent is the option's
 abbrev pub basicsOf : List ℕ → Basics
 basicsOf l = record {
   serial = unsignedAt l (at serial);
@@ -101,23 +101,23 @@ basicsOf l = record {
   charge = chargeAt l (at charge);
 }
 
-abbrev pub positionOf : List ℕ → Position
-positionOf l = record { x = realAt l (at x) zeroReal; y = realAt l (at y) zeroReal; z = realAt l (at z) zeroReal }
+abbrev pub positionOf : Bool → List ℕ → Position
+positionOf on l = record { x = realAt on l (at x) zeroReal; y = realAt on l (at y) zeroReal; z = realAt on l (at z) zeroReal }
 
-abbrev pub positionPlacesOf : List ℕ → PositionPlaces
-positionPlacesOf l = record { x = placesAt l (at x); y = placesAt l (at y); z = placesAt l (at z) }
+abbrev pub positionPlacesOf : Bool → List ℕ → PositionPlaces
+positionPlacesOf on l = record { x = placesAt on l (at x); y = placesAt on l (at y); z = placesAt on l (at z) }
 
-abbrev pub atomOf : Bool → List ℕ → Atom
-atomOf hetero l = record {
+abbrev pub atomOf : Bool → Bool → List ℕ → Atom
+atomOf hetero on l = record {
   hetero = hetero;
   basics = basicsOf l;
-  position = positionOf l;
-  occupancy = realAt l (at occupancy) oneReal;
-  bfactor = realAt l (at bfactor) zeroReal;
+  position = positionOf on l;
+  occupancy = realAt on l (at occupancy) oneReal;
+  bfactor = realAt on l (at bfactor) zeroReal;
   places = record {
-    position = positionPlacesOf l;
-    occupancy = placesAt l (at occupancy);
-    bfactor = placesAt l (at bfactor);
+    position = positionPlacesOf on l;
+    occupancy = placesAt on l (at occupancy);
+    bfactor = placesAt on l (at bfactor);
   };
 }
 
@@ -136,23 +136,23 @@ anisouOf l = record { basics = basicsOf l; factors = factorsOf l }
 
 -- ---- what the readers answer
 abbrev pub gotAtom : Bool → Given → GotAtom
-gotAtom hetero g = record { value = atomOf hetero (g .line); faults = tableNoted g atomTable noFaults }
+gotAtom hetero g = record { value = atomOf hetero (g .options .exponents) (g .line); faults = tableNoted g atomTable noFaults }
 
 abbrev pub gotAnisou : Given → GotAnisou
 gotAnisou g = record { value = anisouOf (g .line); faults = tableNoted g anisouTable noFaults }
 
--- what was read without a list is the line's, if all of it is fine
+-- what was read without a list, and without exponents, is the line's, if all of it is fine
 abbrev pub SaysBasics : List ℕ → FineBasics → Type 0
 SaysBasics l got = got .fine ≡ true → (got .value ≡ basicsOf l) × (lineFine l basicsTable ≡ true)
 
 -- a position's doubles are the line's in any case
 pub record SaysPosition (l : List ℕ) (got : FinePosition) : Type 0 where
-  pub value : got .value ≡ positionOf l
+  pub value : got .value ≡ positionOf false l
   pub fine : got .fine ≡ lineFine l positionTable
-  pub places : got .fine ≡ true → got .places ≡ positionPlacesOf l
+  pub places : got .fine ≡ true → got .places ≡ positionPlacesOf false l
 
 abbrev pub SaysAtom : Bool → List ℕ → FineAtom → Type 0
-SaysAtom hetero l got = got .fine ≡ true → (got .value ≡ atomOf hetero l) × (lineFine l atomTable ≡ true)
+SaysAtom hetero l got = got .fine ≡ true → (got .value ≡ atomOf hetero false l) × (lineFine l atomTable ≡ true)
 
 -- ---- the rows, ascending; what the kinds share stands before and behind the reals
 abbrev pub basicsFields : Basics → List Row → List Row

@@ -1,9 +1,9 @@
 // ATOM, HETATM and ANISOU. The coordinates' faults come before those of what the kinds share, as lexer.rs reads them first.
 // Nearly every line of a file is an atom without a fault, so an atom is read without a list of faults first. Only if a field
-// isn't fine is it read again, with the list going through.
+// isn't fine is it read again, with the list going through, and with exponents where they are asked for.
 ghost use mathlib.Core.Path.{_≡_};
-ghost use Rattle.field.specs.Table.{lineNoted};
-ghost use Rattle.line.specs.Given.{alone};
+ghost use Rattle.field.specs.Table.{lineNoted, tableNoted};
+ghost use Rattle.line.specs.Given.{alone, taking};
 ghost use mathlib.Core.Bool.{false};
 ghost use Rattle.atom.specs.Atom as specs;
 use crate::record::Anisou;
@@ -109,12 +109,12 @@ fn lex_atom_basics(line: &[u8], faults: Faults) -> GotBasics
     GotBasics { value, faults }
 }
 
-fn lex_position(line: &[u8], faults: Faults) -> GotPosition
-    ensures { λ r. ⌜ r ≡ record { value = specs.positionOf (now (line .entry)); places = specs.positionPlacesOf (now (line .entry)); faults = lineNoted (now (line .entry)) specs.positionTable faults } ⌝ }
+fn lex_position(line: &[u8], exponents: bool, faults: Faults) -> GotPosition
+    ensures { λ r. ⌜ r ≡ record { value = specs.positionOf exponents (now (line .entry)); places = specs.positionPlacesOf exponents (now (line .entry)); faults = tableNoted (taking exponents (now (line .entry))) specs.positionTable faults } ⌝ }
 {
-    let x = real(line, Position::X, 0.0, faults);
-    let y = real(line, Position::Y, 0.0, x.faults);
-    let z = real(line, Position::Z, 0.0, y.faults);
+    let x = real(line, Position::X, 0.0, exponents, faults);
+    let y = real(line, Position::Y, 0.0, exponents, x.faults);
+    let z = real(line, Position::Z, 0.0, exponents, y.faults);
     let value = Position::new(x.value, y.value, z.value);
     let places = PositionPlaces {
         x: x.places,
@@ -130,17 +130,18 @@ fn lex_position(line: &[u8], faults: Faults) -> GotPosition
 }
 
 // An atom, with the list going through.
-fn lex_atom_noted(line: &[u8], hetero: bool) -> GotAtom
-    ensures { λ r. ⌜ r ≡ specs.gotAtom hetero (alone (now (line .entry))) ⌝ }
+fn lex_atom_noted(line: &[u8], hetero: bool, exponents: bool) -> GotAtom
+    ensures { λ r. ⌜ r ≡ specs.gotAtom hetero (taking exponents (now (line .entry))) ⌝ }
 {
-    let position = lex_position(line, Faults::none());
+    let position = lex_position(line, exponents, Faults::none());
     let occupancy = real(
         line,
         Atom::OCCUPANCY,
         Atom::OCCUPANCY_DEFAULT,
+        exponents,
         position.faults,
     );
-    let bfactor = real(line, Atom::BFACTOR, 0.0, occupancy.faults);
+    let bfactor = real(line, Atom::BFACTOR, 0.0, exponents, occupancy.faults);
     let basics = lex_atom_basics(line, bfactor.faults);
     let coordinates = position.places;
     let places = AtomPlaces {
@@ -255,12 +256,13 @@ fn quick_atom(line: &[u8], hetero: bool) -> FineAtom
     }
 }
 
-// A line that ends before the element has faults, and isn't read twice.
-pub fn lex_atom(line: &[u8], hetero: bool) -> GotAtom
-    ensures { λ r. ⌜ r ≡ specs.gotAtom hetero (alone (now (line .entry))) ⌝ }
+// A line that ends before the element has faults, and isn't read twice. A plain decimal is the same with exponents and without, so the same quick
+// reading serves both.
+pub fn lex_atom(line: &[u8], hetero: bool, exponents: bool) -> GotAtom
+    ensures { λ r. ⌜ r ≡ specs.gotAtom hetero (taking exponents (now (line .entry))) ⌝ }
 {
     if line.len() < Basics::ELEMENT.end as usize {
-        let noted = lex_atom_noted(line, hetero);
+        let noted = lex_atom_noted(line, hetero, exponents);
         return noted;
     }
     let quick = quick_atom(line, hetero);
@@ -271,7 +273,7 @@ pub fn lex_atom(line: &[u8], hetero: bool) -> GotAtom
             faults: Faults::none(),
         };
     }
-    let noted = lex_atom_noted(line, hetero);
+    let noted = lex_atom_noted(line, hetero, exponents);
     noted
 }
 

@@ -58,38 +58,40 @@ cellTable =
 abbrev pub crystalTable : Bool → List Entry
 crystalTable written = cellTable ++ t-within (at spacegroup) ∷ zEntry written ∷ []
 
-abbrev pub cellOf : List ℕ → Cell
-cellOf l = record {
-  a = realAt l (at a) zeroReal;
-  b = realAt l (at b) zeroReal;
-  c = realAt l (at c) zeroReal;
-  alpha = realAt l (at alpha) zeroReal;
-  beta = realAt l (at beta) zeroReal;
-  gamma = realAt l (at gamma) zeroReal;
+-- whether a real may have an exponent is the option's
+abbrev pub cellOf : Bool → List ℕ → Cell
+cellOf on l = record {
+  a = realAt on l (at a) zeroReal;
+  b = realAt on l (at b) zeroReal;
+  c = realAt on l (at c) zeroReal;
+  alpha = realAt on l (at alpha) zeroReal;
+  beta = realAt on l (at beta) zeroReal;
+  gamma = realAt on l (at gamma) zeroReal;
 }
 
-abbrev pub cellPlacesOf : List ℕ → CellPlaces
-cellPlacesOf l = record {
-  a = placesAt l (at a);
-  b = placesAt l (at b);
-  c = placesAt l (at c);
-  alpha = placesAt l (at alpha);
-  beta = placesAt l (at beta);
-  gamma = placesAt l (at gamma);
+abbrev pub cellPlacesOf : Bool → List ℕ → CellPlaces
+cellPlacesOf on l = record {
+  a = placesAt on l (at a);
+  b = placesAt on l (at b);
+  c = placesAt on l (at c);
+  alpha = placesAt on l (at alpha);
+  beta = placesAt on l (at beta);
+  gamma = placesAt on l (at gamma);
 }
 
 abbrev pub zOf : Bool → List ℕ → ℕ
 zOf true l = unsignedFrom l zFrom
 zOf false l = 1
 
-abbrev pub crystalOf : List ℕ → Crystal
-crystalOf l = record { cell = cellOf l; places = cellPlacesOf l; spacegroup = textWithin l (at spacegroup); z = zOf (hasZ l) l }
+abbrev pub crystalOf : Bool → List ℕ → Crystal
+crystalOf on l = record { cell = cellOf on l; places = cellPlacesOf on l; spacegroup = textWithin l (at spacegroup); z = zOf (hasZ l) l }
 
 abbrev pub gotZ : List ℕ → Faults → GotUnsigned
 gotZ l fs = record { value = zOf (hasZ l) l; faults = lineNoted l (zEntry (hasZ l) ∷ []) fs }
 
 abbrev pub gotCrystal : Given → GotCrystal
-gotCrystal g = record { value = crystalOf (g .line); faults = tableNoted g (crystalTable (hasZ (g .line))) noFaults }
+gotCrystal g =
+    record { value = crystalOf (g .options .exponents) (g .line); faults = tableNoted g (crystalTable (hasZ (g .line))) noFaults }
 
 abbrev pub crystalFields : Crystal → List Row
 crystalFields v =

@@ -1,5 +1,6 @@
 -- The laws of the words in specs/.
 pub mod Fields
 pub mod Fine
+pub mod Either
 pub mod Few
 pub mod Table

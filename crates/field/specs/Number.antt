@@ -9,7 +9,8 @@ use lib.Dec.{ltb, eqb}
 use lib.IntN.{ℤ, pos}
 use lib.Ieee.{Float, fin}
 use Rattle.number.specs.Whole.{unsignedOf, signedOf}
-use Rattle.real.specs.Real.{realOf, tenThousandthsOf}
+use Rattle.real.specs.Real.{tenThousandthsOf}
+use Rattle.real.specs.Wide.{realWith}
 use Rattle.number.specs.declared.whole.Unsigned.{Unsigned}
 use Rattle.number.specs.declared.whole.Unsigned.the-variants.{U, NotU}
 use Rattle.number.specs.declared.whole.Signed.{Signed}
@@ -108,15 +109,15 @@ signedAt l at = orI (signedOf (partOf l at))
 abbrev pub signedFaults : List ℕ → Columns → List Fault
 signedFaults l at = numberFaults l at ISort (isI (signedOf (partOf l at)))
 
--- R, with its default, and its places
-unfoldable pub realAt : List ℕ → Columns → Float → Float
-realAt l at default = orR default (realOf (partOf l at))
+-- R, with an exponent or not as the option has it: with its default, and its places
+unfoldable pub realAt : Bool → List ℕ → Columns → Float → Float
+realAt on l at default = orR default (realWith on (partOf l at))
 
-unfoldable pub placesAt : List ℕ → Columns → ℕ
-placesAt l at = placesIn (realOf (partOf l at))
+unfoldable pub placesAt : Bool → List ℕ → Columns → ℕ
+placesAt on l at = placesIn (realWith on (partOf l at))
 
-abbrev pub realFaults : List ℕ → Columns → List Fault
-realFaults l at = numberFaults l at RSort (isR (realOf (partOf l at)))
+abbrev pub realFaults : Bool → List ℕ → Columns → List Fault
+realFaults on l at = numberFaults l at RSort (isR (realWith on (partOf l at)))
 
 -- one of ANISOU's six: I, made a double and divided by 10000.0
 unfoldable pub factorAt : List ℕ → Columns → Float
@@ -147,8 +148,14 @@ fineSigned l at = record { value = signedAt l at; fine = isFine (signedFaults l 
 abbrev pub isRead : ℕ → Bool
 isRead places = not (eqb places 255)
 
-abbrev pub fineReal : List ℕ → Columns → Float → FineReal
-fineReal l at default = record { value = realAt l at default; places = cond (isFine (realFaults l at)) (placesAt l at) 255 }
+abbrev pub fineReal : Bool → List ℕ → Columns → Float → FineReal
+fineReal on l at default =
+    record { value = realAt on l at default; places = cond (isFine (realFaults on l at)) (placesAt on l at) 255 }
+
+-- the same of what a text says
+abbrev pub fineOf : Float → Real → FineReal
+fineOf default (R x p) = record { value = x; places = p }
+fineOf default NotR = record { value = default; places = 255 }
 
 -- ---- a field's value beside the faults with its own noted
 abbrev pub gotUnsigned : List ℕ → Columns → Faults → GotUnsigned
@@ -157,8 +164,9 @@ gotUnsigned l at fs = record { value = unsignedAt l at; faults = allNoted fs (un
 abbrev pub gotSigned : List ℕ → Columns → Faults → GotSigned
 gotSigned l at fs = record { value = signedAt l at; faults = allNoted fs (signedFaults l at) }
 
-abbrev pub gotReal : List ℕ → Columns → Float → Faults → GotReal
-gotReal l at default fs = record { value = realAt l at default; places = placesAt l at; faults = allNoted fs (realFaults l at) }
+abbrev pub gotReal : Bool → List ℕ → Columns → Float → Faults → GotReal
+gotReal on l at default fs =
+    record { value = realAt on l at default; places = placesAt on l at; faults = allNoted fs (realFaults on l at) }
 
 abbrev pub gotFactor : List ℕ → Columns → Faults → GotFactor
 gotFactor l at fs = record { value = factorAt l at; faults = allNoted fs (factorFaults l at) }

@@ -44,7 +44,7 @@ pub data Entry : Type 0 where
 abbrev pub faultsBy : Given → Entry → List Fault
 faultsBy g (u at) = unsignedFaults (g .line) at
 faultsBy g (i at) = signedFaults (g .line) at
-faultsBy g (r at default) = realFaults (g .line) at
+faultsBy g (r at default) = realFaults (g .options .exponents) (g .line) at
 faultsBy g (t at) = textFaults (g .line) at
 faultsBy g (c at) = characterFaults (g .line) (at .start)
 faultsBy g (c? at) = characterFaults (g .line) (at .start)

@@ -2,6 +2,10 @@
 ghost use mathlib.Core.Path.{_≡_};
 ghost use lib.Dec.{ltb};
 ghost use lib.ListN.{length};
+ghost use mathlib.Core.Bool.{false};
+ghost use Rattle.number.specs.Wide.{markedOf};
+ghost use Rattle.real.specs.Wide.{wideReal};
+ghost use Rattle.line.specs.Columns.{partOf};
 ghost use Rattle.field.specs.Number as specs;
 use line::columns::Columns;
 use line::columns::from_column;
@@ -16,6 +20,7 @@ use number::whole::read_unsigned;
 use real::Real;
 use real::read_real;
 use real::read_ten_thousandths;
+use real::wide::read_exponent;
 
 // A field's value, and whether the field is fine: no fault is noted of it.
 pub struct FineUnsigned {
@@ -166,8 +171,9 @@ pub fn signed(line: &[u8], at: Columns, faults: Faults) -> GotSigned
     }
 }
 
+// A plain decimal.
 pub fn fine_real(line: &[u8], at: Columns, default: f64) -> FineReal
-    ensures { λ r. ⌜ r ≡ specs.fineReal (now (line .entry)) at default ⌝ }
+    ensures { λ r. ⌜ r ≡ specs.fineReal false (now (line .entry)) at default ⌝ }
 {
     if ends_before(line, at) {
         return FineReal {
@@ -184,10 +190,37 @@ pub fn fine_real(line: &[u8], at: Columns, default: f64) -> FineReal
     }
 }
 
-pub fn real(line: &[u8], at: Columns, default: f64, faults: Faults) -> GotReal
-    ensures { λ r. ⌜ r ≡ specs.gotReal (now (line .entry)) at default faults ⌝ }
+// A decimal with an exponent.
+fn fine_exponent(line: &[u8], at: Columns, default: f64) -> FineReal
+    ensures { λ r. ⌜ r ≡ specs.fineOf default (wideReal (markedOf (partOf (now (line .entry)) at))) ⌝ }
 {
-    let got = fine_real(line, at, default);
+    match read_exponent(at.part(line)) {
+        Real::R(value, places) => FineReal { value, places },
+        Real::NotR => FineReal {
+            value: default,
+            places: FineReal::UNREAD,
+        },
+    }
+}
+
+// Nearly every real is a plain decimal, also in files with exponents, so an exponent is looked for only where the plain reading says nothing.
+fn fine_real_with(line: &[u8], at: Columns, default: f64, exponents: bool) -> FineReal
+    ensures { λ r. ⌜ r ≡ specs.fineReal exponents (now (line .entry)) at default ⌝ }
+{
+    let plain = fine_real(line, at, default);
+    if plain.is_fine() {
+        return plain;
+    }
+    if exponents {
+        return fine_exponent(line, at, default);
+    }
+    plain
+}
+
+pub fn real(line: &[u8], at: Columns, default: f64, exponents: bool, faults: Faults) -> GotReal
+    ensures { λ r. ⌜ r ≡ specs.gotReal exponents (now (line .entry)) at default faults ⌝ }
+{
+    let got = fine_real_with(line, at, default, exponents);
     if got.is_fine() {
         return GotReal {
             value: got.value,

@@ -129,8 +129,14 @@ fn lex_kind(number: usize, kind: Kind, line: &[u8], options: Options, remarks: &
     ensures { λ r. ⌜ r ≡ steps.answerOf number (gotItem kind (record { line = now (line .entry); options = options; remarks = now (remarks .entry) })) ⌝ }
 {
     match kind {
-        Kind::Atom => accept(number, GotItem::atom(lex_atom(line, false))),
-        Kind::Hetatm => accept(number, GotItem::atom(lex_atom(line, true))),
+        Kind::Atom => accept(
+            number,
+            GotItem::atom(lex_atom(line, false, options.exponents)),
+        ),
+        Kind::Hetatm => accept(
+            number,
+            GotItem::atom(lex_atom(line, true, options.exponents)),
+        ),
         _ => accept(number, lex_as(kind, line, options, remarks)),
     }
 }

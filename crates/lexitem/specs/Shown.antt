@@ -21,7 +21,8 @@ use Rattle.row.specs.declared.Value.the-variants.{Unsigned, Signed, Real, Facto
 abbrev pub shownBy : Given → Entry → List Row
 shownBy g (u at) = at .start is Unsigned (unsignedAt (g .line) at) ∷ []
 shownBy g (i at) = at .start is Signed (signedAt (g .line) at) ∷ []
-shownBy g (r at default) = at .start is Real (realAt (g .line) at default) (placesAt (g .line) at) ∷ []
+shownBy g (r at default) =
+    at .start is Real (realAt (g .options .exponents) (g .line) at default) (placesAt (g .options .exponents) (g .line) at) ∷ []
 shownBy g (t at) = at .start is Words (textAt (g .line) at) ∷ []
 shownBy g (c at) = at .start is One (characterAt (g .line) (at .start)) ∷ []
 shownBy g (c? at) = at .start is One (optionalAt (g .line) (at .start)) ∷ []

@@ -252,13 +252,13 @@ pub fn lex_as(kind: Kind, line: &[u8], options: Options, remarks: &[u8]) -> GotI
         Kind::Empty => GotItem::bare(LexItem::Empty),
         Kind::Header => GotItem::header(lex_header()),
         Kind::Remark => GotItem::remark(lex_remark(line, remarks)),
-        Kind::Atom => GotItem::atom(lex_atom(line, false)),
-        Kind::Hetatm => GotItem::atom(lex_atom(line, true)),
+        Kind::Atom => GotItem::atom(lex_atom(line, false, options.exponents)),
+        Kind::Hetatm => GotItem::atom(lex_atom(line, true, options.exponents)),
         Kind::Anisou => GotItem::anisou(lex_anisou(line)),
-        Kind::Cryst1 => GotItem::crystal(lex_cryst(line)),
-        Kind::Scale(row) => GotItem::scale(lex_scale(line, row)),
-        Kind::Origx(row) => GotItem::origx(lex_origx(line, row)),
-        Kind::Mtrix(row) => GotItem::mtrix(lex_mtrix(line, row)),
+        Kind::Cryst1 => GotItem::crystal(lex_cryst(line, options.exponents)),
+        Kind::Scale(row) => GotItem::scale(lex_scale(line, row, options.exponents)),
+        Kind::Origx(row) => GotItem::origx(lex_origx(line, row, options.exponents)),
+        Kind::Mtrix(row) => GotItem::mtrix(lex_mtrix(line, row, options.exponents)),
         Kind::Model => {
             let mode = options.mode;
             GotItem::model(lex_model(line, mode))
@@ -273,7 +273,7 @@ pub fn lex_as(kind: Kind, line: &[u8], options: Options, remarks: &[u8]) -> GotI
         Kind::Seqres => GotItem::seqres(lex_seqres(line)),
         Kind::Seqadv => GotItem::seqadv(lex_seqadv(line)),
         Kind::Modres => GotItem::modres(lex_modres(line)),
-        Kind::Ssbond => GotItem::ssbond(lex_ssbond(line)),
+        Kind::Ssbond => GotItem::ssbond(lex_ssbond(line, options.exponents)),
         Kind::Endmdl => GotItem::bare(LexItem::EndModel),
         Kind::Ter => GotItem::bare(LexItem::Ter),
         Kind::End => GotItem::bare(LexItem::End),

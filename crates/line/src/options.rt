@@ -7,18 +7,20 @@ pub enum Mode {
     WwPdb,
 }
 
-// Atoms only makes every kind EMPTY but ATOM, HETATM, MODEL, ENDMDL, TER and END. Loose lets long remarks pass.
+// Atoms only makes every kind EMPTY but ATOM, HETATM, MODEL, ENDMDL, TER and END. Loose lets long remarks pass. Exponents lets a real have one.
 pub struct Options {
     pub atoms: bool,
     pub loose: bool,
     pub mode: Mode,
+    pub exponents: bool,
 }
 
 impl Options {
-    // All kinds, not loose, in crate mode.
+    // All kinds, not loose, in crate mode, without exponents.
     pub const PLAIN: Options = Options {
         atoms: false,
         loose: false,
         mode: Mode::Crate,
+        exponents: false,
     };
 }

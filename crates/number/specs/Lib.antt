@@ -2,4 +2,5 @@
 pub mod Trim
 pub mod Whole
 pub mod Decimal
+pub mod Wide
 pub mod Grammar

@@ -20,7 +20,7 @@ pub enum Decimal {
 
 // Digits, an optional point, digits, with at least one digit. Ten digits keep below 2^64, so the digits at the
 // front end at the first byte that is none.
-fn read_plain(minus: bool, text: &[u8]) -> Decimal
+pub(crate) fn read_plain(minus: bool, text: &[u8]) -> Decimal
     requires { ⌜ length (now text) ≤ 10 ⌝ }
     ensures { λ r. ⌜ r ≡ plainOf minus (now (text .entry)) ⌝ }
 {

@@ -3,3 +3,4 @@
 pub mod decimal;
 pub mod trim;
 pub mod whole;
+pub mod wide;

@@ -47,7 +47,7 @@ pub fn read_run(before: u64, text: &[u8]) -> Run
 }
 
 // One or more digits and nothing else.
-fn read_digits(text: &[u8]) -> Unsigned
+pub(crate) fn read_digits(text: &[u8]) -> Unsigned
     ensures { λ r. ⌜ r ≡ specs.digitsOf (now (text .entry)) ⌝ }
 {
     if text.len() == 0 {

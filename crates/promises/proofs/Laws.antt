@@ -11,5 +11,6 @@ pub mod Numbered
 pub mod Refusing
 pub mod Sequence
 pub mod Faults
+pub mod Idle
 pub mod Edges
 pub mod One

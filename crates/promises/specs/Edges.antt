@@ -3,7 +3,7 @@
 use Prim.Native.Nat.{ℕ, _-_}
 use Prim.Native.String.{String}
 use mathlib.Core.Path.{_≡_}
-use mathlib.Core.Bool.{true, false}
+use mathlib.Core.Bool.{Bool, true, false}
 use mathlib.Core.List.{List, [], _∷_, _++_, map}
 use lib.ListN.{length, replicate}
 use lib.IntN.{pos, negℤ}
@@ -98,20 +98,37 @@ on = reading plain
 
 -- the same, but loose
 abbrev pub onLoose : List ℕ → List Claim → Case
-onLoose = reading (record { atoms = false; loose = true; mode = Crate })
+onLoose = reading (record { atoms = false; loose = true; mode = Crate; exponents = false })
 
 -- the same, but in wwPDB mode
 abbrev pub onStandard : List ℕ → List Claim → Case
-onStandard = reading (record { atoms = false; loose = false; mode = WwPdb })
+onStandard = reading (record { atoms = false; loose = false; mode = WwPdb; exponents = false })
 
 -- the same, but atoms only, in a mode
 abbrev pub onAtoms : Mode → List ℕ → List Claim → Case
-onAtoms mode = reading (record { atoms = true; loose = false; mode = mode })
+onAtoms mode = reading (record { atoms = true; loose = false; mode = mode; exponents = false })
 
 -- the same, but no remark number valid
 abbrev pub onUnknown : List ℕ → List Claim → Case
 onUnknown line claims =
     record { line = line; options = plain; remarks = replicate 1000 0; claims = claims }
+
+-- the same, but with exponents
+abbrev pub onTaking : List ℕ → List Claim → Case
+onTaking = reading (record { atoms = false; loose = false; mode = Crate; exponents = true })
+
+-- a case with the option for exponents on or off
+abbrev pub caseWith : Bool → Case → Case
+caseWith on c = record {
+  line = c .line;
+  options = record { atoms = c .options .atoms; loose = c .options .loose; mode = c .options .mode; exponents = on };
+  remarks = c .remarks;
+  claims = c .claims;
+}
+
+abbrev pub casesWith : Bool → List Case → List Case
+casesWith on [] = []
+casesWith on (c ∷ rest) = caseWith on c ∷ casesWith on rest
 
 -- a line filled with blanks up to a length
 abbrev pub filled : ℕ → List ℕ → List ℕ
@@ -195,4 +212,49 @@ edges =
     -- P12 DBREF1 with `1234` in 20..24 gives 234, and in wwPDB mode 1234
     ∷ on (filled 67 reference) (field item.Dbref1 (λ d. d .segment .end) (pos 234) ∷ faults [] ∷ [])
     ∷ onStandard (filled 67 reference) (field item.Dbref1 (λ d. d .segment .end) (pos 1234) ∷ faults [] ∷ [])
+    ∷ []
+
+-- ---- exponents (2026-10)
+-- the four reals of a SCALE1, in its order
+abbrev fours : ℕ → ℕ → ℕ → ℕ → List Claim
+fours a b c d =
+    field item.Scale (λ s. s .values .a) (real a)
+    ∷ field item.Scale (λ s. s .values .b) (real b)
+    ∷ field item.Scale (λ s. s .values .c) (real c)
+    ∷ field item.Scale (λ s. s .values .d) (real d)
+    ∷ []
+
+-- none of them is read
+abbrev allWrong : List Claim
+allWrong = fours 0 0 0 0 ++ faults (wrong R 10 10 ∷ wrong R 20 10 ∷ wrong R 30 10 ∷ wrong R 45 10 ∷ []) ∷ []
+
+abbrev pub exponents : List Case
+exponents =
+    -- "a plain decimal, then `e` or `E`, an optional sign, at least one digit", with the option on and off; x - p is 1, 22, 22 and -22
+    onTaking (bytes "SCALE1         1.2E2      1e22    1.0e23          1e-22")
+    (fours 0x405E000000000000 0x4480F0CF064DD592 0x44B52D02C7E14AF6 0x3B5E392010175EE6 ++ faults [] ∷ [])
+    ∷ on (bytes "SCALE1         1.2E2      1e22    1.0e23          1e-22") allWrong
+    ∷ onTaking (bytes "SCALE1         -5E+1     1E+05      .5e1           5.e0")
+    (fours 0xC049000000000000 0x40F86A0000000000 0x4014000000000000 0x4014000000000000 ++ faults [] ∷ [])
+    -- to the nearest; a zero keeps its sign
+    ∷ onTaking (bytes "SCALE1    123456e-22    9.5e22    0.0e-9           -0E5")
+    (fours 0x3C6C778E53280342 0x44B41DF5D77C6D9D 0 0x8000000000000000 ++ faults [] ∷ [])
+    -- x - p is 23, 23, -23 and -23
+    ∷ onTaking (bytes "SCALE1          1e23    1.0e24     1e-23         .5e-22") allWrong
+    -- no such form
+    ∷ onTaking (bytes "SCALE1            1e       1e+        e5            .e1") allWrong
+    -- "infinities and NaN remain fault 2"
+    ∷ onTaking (bytes "SCALE1         1e1.0      1 e5       inf            nan") allWrong
+    -- "The places count of 2026-02 is p"; "a default 0"
+    ∷ onTaking (bytes "SCALE1       1.200E2     .5e-1       5e3           1e23")
+    (field item.Scale (λ s. s .places) (record { a = 3; b = 1; c = 0; d = 0 }) ∷ faults (wrong R 45 10 ∷ []) ∷ [])
+    -- a B factor; an occupancy that isn't read is 1.0
+    ∷ onTaking (bytes "ATOM      1  N   ALA A   1      11.104   6.134  -6.504  1e23 1.2E2           N")
+    (field item.Atom (λ a. a .occupancy) (real 0x3FF0000000000000)
+    ∷ field item.Atom (λ a. a .bfactor) (real 0x405E000000000000)
+    ∷ faults (wrong R 54 6 ∷ [])
+    ∷ [])
+    -- ANISOU's six are integers
+    ∷ onTaking (bytes "ANISOU    1  N   ALA A   1      1e2      2      3      4      5      6       N")
+    (field item.Anisou (λ a. a .factors .u11) (real 0) ∷ faults (wrong I 28 7 ∷ []) ∷ [])
     ∷ []

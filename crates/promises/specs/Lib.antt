@@ -5,5 +5,6 @@ pub mod Departures
 pub mod Refusing
 pub mod Sequence
 pub mod Numbered
+pub mod Idle
 pub mod Edges
 pub mod Defaults

@@ -1,5 +1,6 @@
 -- The laws of the words in specs/. Word, Shape and Fixed are of texts, and prove the quick reading. Apart to Powers are of doubles, and end in
--- the distance and in what a double tells. Real is what callers and readers cite.
+-- the distance and in what a double tells. Real is what callers and readers cite. Nearest to WideReal are of exponents, and
+-- WideReal is what callers and readers cite of them.
 pub mod Word
 pub mod Shape
 pub mod Fixed
@@ -11,3 +12,6 @@ pub mod Quotient
 pub mod Tells
 pub mod Powers
 pub mod Real
+pub mod Nearest
+pub mod Wide
+pub mod WideReal

@@ -1,6 +1,8 @@
--- The words that the contracts of this crate cite. Near is what a double is held to; Fixed is of the quick reading alone.
+-- The words that the contracts of this crate cite. Near and Nearest are what a double is held to; Fixed is of the quick reading alone.
 pub mod Double
 pub mod Real
 pub mod Sign
 pub mod Near
+pub mod Nearest
+pub mod Wide
 pub mod Fixed

@@ -9,6 +9,7 @@ ghost use Rattle.real.specs.Fixed.{Limits, SaysReal};
 ghost use Rattle.real.specs.Real as specs;
 
 mod fixed;
+pub mod wide;
 
 use crate::fixed::read_fixed;
 use number::decimal::Decimal;
@@ -24,7 +25,7 @@ pub enum Real {
 
 // 10^p as a whole number: one, p times multiplied by ten.
 fn ten_to(p: usize) -> u64
-    requires { ⌜ p ≤ 9 ⌝ }
+    requires { ⌜ p ≤ 11 ⌝ }
     ensures { λ r. ⌜ r ≡ 10 ^ p ⌝ }
 {
     let mut n = 1;
@@ -37,8 +38,8 @@ fn ten_to(p: usize) -> u64
 }
 
 // 10^p as a double.
-fn converted(p: usize) -> f64
-    requires { ⌜ p ≤ 9 ⌝ }
+pub(crate) fn converted(p: usize) -> f64
+    requires { ⌜ p ≤ 11 ⌝ }
     ensures { λ r. ⌜ r ≡ ofInt binary64 (pos (10 ^ p)) ⌝ }
 {
     (ten_to(p) as i64) as f64

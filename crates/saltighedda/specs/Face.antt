@@ -16,12 +16,13 @@ use Rattle.listing.specs.Listed.{measured, listedBytes}
 use Rattle.listing.specs.declared.Listed.{Listed}
 use Rattle.listing.specs.declared.Listed.the-variants.{Written, Refused}
 
--- bit 0 is atoms only, bit 1 is loose and bit 2 is wwPDB mode; the other bits have no effect
+-- bit 0 is atoms only, bit 1 is loose, bit 2 is wwPDB mode and bit 3 takes exponents; the other bits have no effect
 unfoldable pub modeOf : ℕ → Mode
 modeOf bits = cond (eqb (bits / 4 % 2) 1) WwPdb Crate
 
 unfoldable pub optionsOf : ℕ → Options
-optionsOf bits = record { atoms = eqb (bits % 2) 1; loose = eqb (bits / 2 % 2) 1; mode = modeOf bits }
+optionsOf bits =
+    record { atoms = eqb (bits % 2) 1; loose = eqb (bits / 2 % 2) 1; mode = modeOf bits; exponents = eqb (bits / 8 % 2) 1 }
 
 abbrev pub inputOf : List ℕ → ℕ → ℕ → List ℕ → Input
 inputOf line number bits remarks = record { line = line; number = number; options = optionsOf bits; remarks = remarks }

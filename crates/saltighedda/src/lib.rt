@@ -36,6 +36,7 @@ pub fn options_of(bits: u32) -> Options
         atoms: bits % 2 == 1,
         loose: bits / 2 % 2 == 1,
         mode,
+        exponents: bits / 8 % 2 == 1,
     }
 }
 

@@ -10,7 +10,7 @@ use Rattle.field.specs.Table.Entry.{i, r, t, c, c?}
 use Rattle.field.specs.Text.{textAt, characterAt, optionalAt}
 use Rattle.line.specs.Columns.{_⋯_, only}
 use Rattle.line.specs.Faults.{noFaults}
-use Rattle.line.specs.Given.{Given}
+use Rattle.line.specs.Given.{Given, taking}
 use Rattle.line.specs.declared.columns.Columns.{Columns}
 use Rattle.line.specs.declared.fault.Faults.{Faults}
 use Rattle.row.specs.Rows.{_is_}
@@ -68,20 +68,21 @@ residueOf l s = record {
   insertion = optionalAt l (at (insertion s) .start);
 }
 
-abbrev pub tailOf : Bool → List ℕ → Tail
-tailOf true l = Bond (textAt l (at (operator first))) (textAt l (at (operator second))) (realAt l (at distance) zeroReal)
-tailOf false l = NoTail
+-- whether the distance may have an exponent is the option's
+abbrev pub tailOf : Bool → Bool → List ℕ → Tail
+tailOf true on l = Bond (textAt l (at (operator first))) (textAt l (at (operator second))) (realAt on l (at distance) zeroReal)
+tailOf false on l = NoTail
 
-abbrev pub tailPlaces : Bool → List ℕ → ℕ
-tailPlaces true l = placesAt l (at distance)
-tailPlaces false l = 0
+abbrev pub tailPlaces : Bool → Bool → List ℕ → ℕ
+tailPlaces true on l = placesAt on l (at distance)
+tailPlaces false on l = 0
 
-abbrev pub ssbondOf : List ℕ → SSBond
-ssbondOf l = record {
+abbrev pub ssbondOf : Bool → List ℕ → SSBond
+ssbondOf on l = record {
   first = residueOf l first;
   second = residueOf l second;
-  tail = tailOf (hasTail l) l;
-  places = tailPlaces (hasTail l) l;
+  tail = tailOf (hasTail l) on l;
+  places = tailPlaces (hasTail l) on l;
 }
 
 -- one side, read from columns that are handed over
@@ -96,12 +97,13 @@ gotResidue l nameAt chainAt numberAt insertionAt fs = record {
   faults = lineNoted l (t nameAt ∷ c (only chainAt) ∷ i numberAt ∷ c? (only insertionAt) ∷ []) fs;
 }
 
-abbrev pub gotTail : List ℕ → Faults → GotTail
-gotTail l fs =
-    record { value = tailOf (hasTail l) l; places = tailPlaces (hasTail l) l; faults = lineNoted l (tailTable (hasTail l)) fs }
+abbrev pub gotTail : Bool → List ℕ → Faults → GotTail
+gotTail on l fs =
+    record { value = tailOf (hasTail l) on l; places = tailPlaces (hasTail l) on l; faults = tableNoted (taking on l) (tailTable (hasTail l)) fs }
 
 abbrev pub gotSSBond : Given → GotSSBond
-gotSSBond g = record { value = ssbondOf (g .line); faults = tableNoted g (ssbondTable (hasTail (g .line))) noFaults }
+gotSSBond g =
+    record { value = ssbondOf (g .options .exponents) (g .line); faults = tableNoted g (ssbondTable (hasTail (g .line))) noFaults }
 
 -- the symmetry operators and the bond's length, if the line has them
 abbrev pub tailFirst : Tail → Value

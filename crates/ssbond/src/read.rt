@@ -1,6 +1,6 @@
 // SSBOND. Its serial number is not read.
 ghost use mathlib.Core.Path.{_≡_};
-ghost use Rattle.line.specs.Given.{alone};
+ghost use Rattle.line.specs.Given.{taking};
 ghost use Rattle.ssbond.specs.Ssbond as specs;
 use crate::record::Residue;
 use crate::record::SSBond;
@@ -52,8 +52,8 @@ fn lex_residue(
 }
 
 // The operators and the length, in a line that reaches the length's last column.
-fn lex_tail(line: &[u8], faults: Faults) -> GotTail
-    ensures { λ r. ⌜ r ≡ specs.gotTail (now (line .entry)) faults ⌝ }
+fn lex_tail(line: &[u8], exponents: bool, faults: Faults) -> GotTail
+    ensures { λ r. ⌜ r ≡ specs.gotTail exponents (now (line .entry)) faults ⌝ }
 {
     if line.len() < SSBond::LENGTH.end as usize {
         return GotTail {
@@ -64,7 +64,7 @@ fn lex_tail(line: &[u8], faults: Faults) -> GotTail
     }
     let first = text(line, SSBond::OPERATOR, faults);
     let second = text(line, SSBond::OTHER_OPERATOR, first.faults);
-    let length = real(line, SSBond::LENGTH, 0.0, second.faults);
+    let length = real(line, SSBond::LENGTH, 0.0, exponents, second.faults);
     let one = first.value;
     let other = second.value;
     let value = Tail::Bond {
@@ -80,8 +80,8 @@ fn lex_tail(line: &[u8], faults: Faults) -> GotTail
     }
 }
 
-pub fn lex_ssbond(line: &[u8]) -> GotSSBond
-    ensures { λ r. ⌜ r ≡ specs.gotSSBond (alone (now (line .entry))) ⌝ }
+pub fn lex_ssbond(line: &[u8], exponents: bool) -> GotSSBond
+    ensures { λ r. ⌜ r ≡ specs.gotSSBond (taking exponents (now (line .entry))) ⌝ }
 {
     let first = lex_residue(
         line,
@@ -99,7 +99,7 @@ pub fn lex_ssbond(line: &[u8]) -> GotSSBond
         SSBond::OTHER_INSERTION,
         first.faults,
     );
-    let tail = lex_tail(line, second.faults);
+    let tail = lex_tail(line, exponents, second.faults);
     let bond = tail.value;
     let ssbond = SSBond::new(first.value, second.value, bond, tail.places);
     let faults = tail.faults;

@@ -42,44 +42,45 @@ transformationTable = r (at a) zeroReal ∷ r (at b) zeroReal ∷ r (at c) zeroR
 abbrev pub mtrixTable : List Entry
 mtrixTable = u (at serial) ∷ transformationTable ++ Entry.given givenAt ∷ []
 
-abbrev pub transformationOf : List ℕ → Transformation
-transformationOf l = record {
-  a = realAt l (at a) zeroReal;
-  b = realAt l (at b) zeroReal;
-  c = realAt l (at c) zeroReal;
-  d = realAt l (at d) zeroReal;
+-- whether a real may have an exponent is the option's
+abbrev pub transformationOf : Bool → List ℕ → Transformation
+transformationOf on l = record {
+  a = realAt on l (at a) zeroReal;
+  b = realAt on l (at b) zeroReal;
+  c = realAt on l (at c) zeroReal;
+  d = realAt on l (at d) zeroReal;
 }
 
-abbrev pub rowPlacesOf : List ℕ → RowPlaces
-rowPlacesOf l = record { a = placesAt l (at a); b = placesAt l (at b); c = placesAt l (at c); d = placesAt l (at d) }
+abbrev pub rowPlacesOf : Bool → List ℕ → RowPlaces
+rowPlacesOf on l = record { a = placesAt on l (at a); b = placesAt on l (at b); c = placesAt on l (at c); d = placesAt on l (at d) }
 
-abbrev pub scaleOf : ℕ → List ℕ → Scale
-scaleOf row l = record { row = row; values = transformationOf l; places = rowPlacesOf l }
+abbrev pub scaleOf : ℕ → Bool → List ℕ → Scale
+scaleOf row on l = record { row = row; values = transformationOf on l; places = rowPlacesOf on l }
 
-abbrev pub origxOf : ℕ → List ℕ → OrigX
-origxOf row l = record { row = row; values = transformationOf l; places = rowPlacesOf l }
+abbrev pub origxOf : ℕ → Bool → List ℕ → OrigX
+origxOf row on l = record { row = row; values = transformationOf on l; places = rowPlacesOf on l }
 
 -- a byte past the line's end is no `1`
 abbrev pub givenOf : List ℕ → Bool
 givenOf l = eqb (getD l givenAt 0) 49
 
-abbrev pub mtrixOf : ℕ → List ℕ → MtriX
-mtrixOf row l = record {
+abbrev pub mtrixOf : ℕ → Bool → List ℕ → MtriX
+mtrixOf row on l = record {
   row = row;
   serial = unsignedAt l (at serial);
-  values = transformationOf l;
-  places = rowPlacesOf l;
+  values = transformationOf on l;
+  places = rowPlacesOf on l;
   given = givenOf l;
 }
 
 abbrev pub gotScale : ℕ → Given → GotScale
-gotScale row g = record { value = scaleOf row (g .line); faults = tableNoted g transformationTable noFaults }
+gotScale row g = record { value = scaleOf row (g .options .exponents) (g .line); faults = tableNoted g transformationTable noFaults }
 
 abbrev pub gotOrigX : ℕ → Given → GotOrigX
-gotOrigX row g = record { value = origxOf row (g .line); faults = tableNoted g transformationTable noFaults }
+gotOrigX row g = record { value = origxOf row (g .options .exponents) (g .line); faults = tableNoted g transformationTable noFaults }
 
 abbrev pub gotMtriX : ℕ → Given → GotMtriX
-gotMtriX row g = record { value = mtrixOf row (g .line); faults = tableNoted g mtrixTable noFaults }
+gotMtriX row g = record { value = mtrixOf row (g .options .exponents) (g .line); faults = tableNoted g mtrixTable noFaults }
 
 abbrev pub transformationFields : Transformation → RowPlaces → List Row
 transformationFields v n =

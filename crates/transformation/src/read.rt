@@ -1,7 +1,7 @@
 // SCALEn, ORIGXn and MTRIXn.
 ghost use mathlib.Core.Path.{_≡_};
-ghost use Rattle.field.specs.Table.{lineNoted};
-ghost use Rattle.line.specs.Given.{alone};
+ghost use Rattle.field.specs.Table.{tableNoted};
+ghost use Rattle.line.specs.Given.{taking};
 ghost use Rattle.transformation.specs.Transformation as specs;
 use crate::record::MtriX;
 use crate::record::OrigX;
@@ -33,13 +33,13 @@ pub struct GotTransformation {
     pub faults: Faults,
 }
 
-fn lex_transformation(line: &[u8], faults: Faults) -> GotTransformation
-    ensures { λ r. ⌜ r ≡ record { value = specs.transformationOf (now (line .entry)); places = specs.rowPlacesOf (now (line .entry)); faults = lineNoted (now (line .entry)) specs.transformationTable faults } ⌝ }
+fn lex_transformation(line: &[u8], exponents: bool, faults: Faults) -> GotTransformation
+    ensures { λ r. ⌜ r ≡ record { value = specs.transformationOf exponents (now (line .entry)); places = specs.rowPlacesOf exponents (now (line .entry)); faults = tableNoted (taking exponents (now (line .entry))) specs.transformationTable faults } ⌝ }
 {
-    let a = real(line, Transformation::A, 0.0, faults);
-    let b = real(line, Transformation::B, 0.0, a.faults);
-    let c = real(line, Transformation::C, 0.0, b.faults);
-    let d = real(line, Transformation::D, 0.0, c.faults);
+    let a = real(line, Transformation::A, 0.0, exponents, faults);
+    let b = real(line, Transformation::B, 0.0, exponents, a.faults);
+    let c = real(line, Transformation::C, 0.0, exponents, b.faults);
+    let d = real(line, Transformation::D, 0.0, exponents, c.faults);
     let value = Transformation::new(a.value, b.value, c.value, d.value);
     let places = RowPlaces {
         a: a.places,
@@ -55,10 +55,10 @@ fn lex_transformation(line: &[u8], faults: Faults) -> GotTransformation
     }
 }
 
-pub fn lex_scale(line: &[u8], row: usize) -> GotScale
-    ensures { λ r. ⌜ r ≡ specs.gotScale row (alone (now (line .entry))) ⌝ }
+pub fn lex_scale(line: &[u8], row: usize, exponents: bool) -> GotScale
+    ensures { λ r. ⌜ r ≡ specs.gotScale row (taking exponents (now (line .entry))) ⌝ }
 {
-    let values = lex_transformation(line, Faults::none());
+    let values = lex_transformation(line, exponents, Faults::none());
     let scale = Scale::new(row, values.value, values.places);
     let faults = values.faults;
     GotScale {
@@ -67,10 +67,10 @@ pub fn lex_scale(line: &[u8], row: usize) -> GotScale
     }
 }
 
-pub fn lex_origx(line: &[u8], row: usize) -> GotOrigX
-    ensures { λ r. ⌜ r ≡ specs.gotOrigX row (alone (now (line .entry))) ⌝ }
+pub fn lex_origx(line: &[u8], row: usize, exponents: bool) -> GotOrigX
+    ensures { λ r. ⌜ r ≡ specs.gotOrigX row (taking exponents (now (line .entry))) ⌝ }
 {
-    let values = lex_transformation(line, Faults::none());
+    let values = lex_transformation(line, exponents, Faults::none());
     let origx = OrigX::new(row, values.value, values.places);
     let faults = values.faults;
     GotOrigX {
@@ -89,11 +89,11 @@ fn is_given(line: &[u8]) -> bool
     line[MtriX::GIVEN] == 49
 }
 
-pub fn lex_mtrix(line: &[u8], row: usize) -> GotMtriX
-    ensures { λ r. ⌜ r ≡ specs.gotMtriX row (alone (now (line .entry))) ⌝ }
+pub fn lex_mtrix(line: &[u8], row: usize, exponents: bool) -> GotMtriX
+    ensures { λ r. ⌜ r ≡ specs.gotMtriX row (taking exponents (now (line .entry))) ⌝ }
 {
     let serial = unsigned(line, MtriX::SERIAL, Faults::none());
-    let values = lex_transformation(line, serial.faults);
+    let values = lex_transformation(line, exponents, serial.faults);
     let mtrix = MtriX::new(
         row,
         serial.value,

@@ -1,14 +1,17 @@
 //! The sections that are drawn at random.
 
-use super::texts::{damage, fill, good, kind_named, place, sorted_text, GOOD_MOST, SMALL, TEXTS};
+use super::texts::{
+    damage, exponent_text, fill, good, kind_named, place, sorted_text, GOOD_MOST, SMALL, TEXTS,
+};
 use super::{Input, Section, Tables};
 use crate::columns::{Kind, Sort, KINDS, LINE_END};
 use crate::random::Random;
 
 /// The sections that are drawn at random, with their shares in a hundred.
 pub const SECTIONS: &[Section] = &[
-    ("random good lines", 35, draw_good),
-    ("random fields", 24, draw_fields),
+    ("random good lines", 30, draw_good),
+    ("random exponents", 10, draw_exponents),
+    ("random fields", 19, draw_fields),
     ("damaged lines", 20, draw_damaged),
     ("random bytes", 9, draw_bytes),
     ("random ends", 7, draw_ends),
@@ -85,6 +88,21 @@ fn draw_fields(input: &mut Input, _at: u64, random: &mut Random) {
     if random.percent(20) {
         let length = random.index(input.line.len() + 1);
         input.line.truncate(length);
+    }
+}
+
+/// Good lines with an exponent in some real fields, most of them about the limits.
+fn draw_exponents(input: &mut Input, _at: u64, random: &mut Random) {
+    let name = random.pick(&["ATOM", "HETATM", "CRYST1", "SCALE1", "ORIGX2", "MTRIX3", "SSBOND"]);
+    let kind = &KINDS[kind_named(name)];
+    keep(input, kind, random);
+    fill(&mut input.line, kind, random);
+    let reals: Vec<_> = kind.fields.iter().filter(|field| field.sort == Sort::Real).collect();
+    for _ in 0..=random.index(3) {
+        let field = reals[random.index(reals.len())];
+        let mut text = Vec::with_capacity(16);
+        exponent_text(&mut text, field.end - field.start, random);
+        place(&mut input.line, field, &text, random.index(4));
     }
 }
 

@@ -20,7 +20,8 @@ pub const TEXTS: &[&[u8]] = &[
     b"1.5", b"1..5", b"1.5.", b".5.", b"0.1", b"0.3", b"2.675", b"123.456", b"-12.345", b"0.00000001",
     b".000000001", b"999999999.", b"99999.9999", b"1234.56789",
     b"1e5", b"1E5", b"5.e1", b".5e1", b"1e+5", b"1e-5", b"1e999", b"-1e-999", b"e5", b"1e", b"1e+",
-    b".e1", b"1e1.", b"inf", b"-inf", b"+inf", b"INF", b"iNf", b"infinity", b"-Infinity", b"infin",
+    b".e1", b"1e1.", b"1e1.0", b"1E+05", b"0e99999999", b"-0E5", b"1e22", b"1e23", b"1e-22", b"1e-23",
+    b"1.0e23", b".5e-22", b"1.2E2", b"0.1e-21", b"inf", b"-inf", b"+inf", b"INF", b"iNf", b"infinity", b"-Infinity", b"infin",
     b"in", b"nan", b"NaN", b"-nan", b"+NAN", b"na", b"nan(1)", b"0x1", b"0b1", b"1_0", b"1,5", b"1f64",
     b"1 5", b"+ 5", b"- 5", b"1 .5", b"\t5", b"5\t", b"\x0B5\x0B", b"\x0C5\x0C", b"\r5\r", b"\n5\n",
     b"\t\n\x0B\x0C\r", b"\x085", b"\x0E5", b"\x1C5", b"\x1D5", b"\x1E5", b"\x1F5", b"5\x1F", b"\x005",
@@ -81,6 +82,36 @@ pub fn place(line: &mut Vec<u8>, field: &Field, text: &[u8], aligned: usize) {
 pub fn digits(out: &mut Vec<u8>, count: usize, random: &mut Random) {
     for _ in 0..count {
         out.push(b'0' + random.below(10) as u8);
+    }
+}
+
+/// A decimal with an exponent in this width, some with a slip in it.
+pub fn exponent_text(out: &mut Vec<u8>, width: usize, random: &mut Random) {
+    let mut exponent = vec![random.pick(b"eE")];
+    match random.below(4) {
+        0 => {}
+        1 => exponent.push(b'+'),
+        _ => exponent.push(b'-'),
+    }
+    let size = match random.below(8) {
+        0 => random.index(100),
+        1 => random.index(100_000),
+        2 | 3 => random.index(10),
+        _ => 13 + random.index(20),
+    };
+    if random.percent(10) {
+        exponent.push(b'0');
+    }
+    exponent.extend_from_slice(size.to_string().as_bytes());
+    let left = width.saturating_sub(exponent.len()).max(1);
+    sorted_text(out, Sort::Real, left, random);
+    if random.percent(3) {
+        out.fill(b'0');
+    }
+    out.extend_from_slice(&exponent);
+    if random.percent(5) {
+        let at = random.index(out.len());
+        out[at] = random.pick(b"0.eE+- x");
     }
 }
 

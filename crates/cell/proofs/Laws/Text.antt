@@ -173,18 +173,20 @@ module _ (q : ℕ) (s : Bool) (n : ℕ) (few : n < 10 ^ 10) where
       let (g, signed, text) = sign-of in
       let whole : trimmed (right w t) ≡ t = right-trimmed w t ∙ dark-trimmed t fixed-between in
       decimal-read (record {
-        sign = g;
-        front = front;
-        tail = tailOf q n;
-        behind = behind;
-        signed = signed;
-        fraction = tail-fraction q n;
-        text = whole ∙ text;
         width = rw whole (le-trans h k);
-        some = omega (arith, length-append front behind, decimal-length (n / 10 ^ q) front-small .0);
-        each = rw (digits-append front behind, all-digits front (between (n / 10 ^ q) front-small), all-digits behind (last-between q n [] tt)) refl;
-        value = value-is;
-        places = sym (last-length q n [] ∙ add-zero q);
+        plain = record {
+          sign = g;
+          front = front;
+          tail = tailOf q n;
+          behind = behind;
+          signed = signed;
+          fraction = tail-fraction q n;
+          text = whole ∙ text;
+          some = omega (arith, length-append front behind, decimal-length (n / 10 ^ q) front-small .0);
+          each = rw (digits-append front behind, all-digits front (between (n / 10 ^ q) front-small), all-digits behind (last-between q n [] tt)) refl;
+          value = value-is;
+          places = sym (last-length q n [] ∙ add-zero q);
+        };
       })
 
 -- ---- the double that a written field is read as

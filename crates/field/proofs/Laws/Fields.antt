@@ -21,7 +21,9 @@ use mir.Facts.{toZ-ofZ}
 use Rattle.number.specs.Trim.{leading, kept, trimmed, endTrimmed, spanOf}
 use Rattle.number.specs.Whole.{digit, digits, begins, afterPlus, afterSign, digitsOf, unsignedOf, signedDigits, signedOf, withSign}
 use Rattle.number.specs.Decimal.{beforePoint, behindPoint, withoutPoint, plainOf, decimalOf}
+use Rattle.number.specs.Wide.{markAt, markedParts, markedIn, markedOf, wideOf}
 use Rattle.real.specs.Real.{realOf, tenThousandthsOf}
+use Rattle.real.specs.Wide.{realWith}
 use Rattle.number.specs.declared.trim.Span.{Span}
 use Rattle.number.specs.declared.whole.Unsigned.the-variants.{NotU}
 use Rattle.number.specs.declared.whole.Signed.{Signed}
@@ -46,9 +48,11 @@ pub signed-none : signedOf [] ≡ NotI
 unfolding signedOf signedDigits digits afterSign begins trimmed endTrimmed leading kept
 signed-none = refl
 
-pub real-none : realOf [] ≡ NotR
-unfolding realOf decimalOf plainOf withoutPoint beforePoint behindPoint digits afterSign begins trimmed endTrimmed leading kept
-real-none = refl
+pub real-none : (on : Bool) → realWith on [] ≡ NotR
+unfolding realWith realOf decimalOf plainOf withoutPoint beforePoint behindPoint digits afterSign begins trimmed endTrimmed leading kept
+    wideOf markedOf markedIn markedParts markAt digitsOf
+real-none false = refl
+real-none true = refl
 
 pub factor-none : tenThousandthsOf [] ≡ NotR
 unfolding tenThousandthsOf signedOf signedDigits digits afterSign begins trimmed endTrimmed leading kept

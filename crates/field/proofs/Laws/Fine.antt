@@ -3,25 +3,26 @@
 --     number-one, text-one, character-one     one that isn't has one, the defined one
 --     places-few, fine-read                   a real has nine places at most, so that 255 tells that it isn't fine
 --     unread-none                             where it isn't, it has none
+--     fine-is, fine-says                      a real is fine where its text says one
 --     charge-fine                             a charge is fine if it is a digit and a sign
 --     charge-one, charge-two                  a charge that isn't has one fault, and both its columns are there
 --     all-fine                                a table of fine fields notes nothing
 -- Assumes nothing.
 use Prim.Native.Nat.{ℕ, _+_, _≤_}
-use mathlib.Core.Path.{_≡_, refl, sym}
+use mathlib.Core.Path.{_≡_, refl, sym, ap, _∙_}
 use mathlib.Core.Bool.{Bool, true, false, cond, not, _&&_}
 use mathlib.Core.List.{List, [], _∷_}
 use native.Mathlib.Omega.{arith}
 use borrow.Author.Tests.{eqb-true, ne-eqb}
 use lib.ListN.{length, getD}
 use lib.Dec.{ltb, eqb}
+use lib.Ieee.{Float}
 use Rattle.number.specs.Whole.{digit}
 use Rattle.number.proofs.Laws.Choice.{and-left, and-right}
-use Rattle.number.proofs.Laws.Width.{decimal-limits}
-use Rattle.real.specs.Real.{realOf}
+use Rattle.real.specs.Wide.{realWith}
 use Rattle.real.specs.declared.Real.{Real}
 use Rattle.real.specs.declared.Real.the-variants.{R, NotR}
-use Rattle.real.proofs.Laws.Real.{real-near}
+use Rattle.real.proofs.Laws.WideReal.{with-few}
 use Rattle.line.specs.Columns.{partOf}
 use Rattle.line.specs.declared.columns.Columns.{Columns}
 use Rattle.line.specs.declared.fault.Fault.{Fault}
@@ -29,7 +30,8 @@ use Rattle.line.specs.declared.fault.Faults.{Faults}
 use Rattle.line.specs.declared.fault.Sort.{Sort}
 use Rattle.line.specs.declared.fault.Sort.the-variants.{Real as RSort}
 use Rattle.line.specs.declared.fault.FaultKind.the-variants.{NoDigit, NoSign}
-use Rattle.field.specs.Number.{isFine, isR, isRead, placesIn, placesAt, realFaults, shortAt, wrongAt, numberFault, numberFaults}
+use Rattle.field.specs.Number.{isFine, isR, isRead, orR, placesIn, realAt, placesAt, realFaults, fineReal, fineOf, shortAt, wrongAt, numberFault, numberFaults}
+use Rattle.field.specs.declared.number_field.FineReal.{FineReal}
 use Rattle.field.specs.Text.{textFaults, characterFaults, unreached}
 use Rattle.field.specs.Charge.{bothBlank, isSign, charged, chargeFault, chargeFaultsOf, chargeFaults}
 use Rattle.line.specs.Given.{Given}
@@ -51,31 +53,70 @@ number-one l at sort ok e = go (ltb (length l) (at .end)) ok e
     go false true e = cc
     go false false e = refl
 
-real-few : (t : List ℕ) (r : Real) → realOf t ≡ r → placesIn r ≤ 9
-real-few t (R x p) e = let (s, m, d, near) = real-near t e in decimal-limits t d .1
-real-few t NotR e = omega arith
+real-few : (on : Bool) (t : List ℕ) (r : Real) → realWith on t ≡ r → placesIn r ≤ 9
+real-few on t (R x p) e = with-few on t e
+real-few on t NotR e = omega arith
 
-module _ (l : List ℕ) (at : Columns) where
-  pub places-few : placesAt l at ≤ 9
+module _ (on : Bool) (l : List ℕ) (at : Columns) where
+  pub places-few : placesAt on l at ≤ 9
   unfolding placesAt
-  places-few = real-few (partOf l at) (realOf (partOf l at)) refl
+  places-few = real-few on (partOf l at) (realWith on (partOf l at)) refl
 
-  pub fine-read : isRead (cond (isFine (realFaults l at)) (placesAt l at) 255) ≡ isFine (realFaults l at)
-  fine-read = go (isFine (realFaults l at))
+  pub fine-read : isRead (cond (isFine (realFaults on l at)) (placesAt on l at) 255) ≡ isFine (realFaults on l at)
+  fine-read = go (isFine (realFaults on l at))
     where
-      go : (b : Bool) → isRead (cond b (placesAt l at) 255) ≡ b
-      go true = rw (ne-eqb (placesAt l at) 255 (λ e. omega (arith, places-few))) refl
+      go : (b : Bool) → isRead (cond b (placesAt on l at) 255) ≡ b
+      go true = rw (ne-eqb (placesAt on l at) 255 (λ e. omega (arith, places-few))) refl
       go false = refl
 
-  pub unread-none : isFine (realFaults l at) ≡ false → placesAt l at ≡ 0
-  unfolding placesAt numberFaults
-  unread-none e = go (ltb (length l) (at .end)) (realOf (partOf l at)) refl refl e
+  -- by whether the line reaches, and by what its text says
+  real-cases : (P : Bool → Real → Type 0) → P true NotR → ((r : Real) → realWith on (partOf l at) ≡ r → P false r)
+      → P (ltb (length l) (at .end)) (realWith on (partOf l at))
+  real-cases P short long = go (ltb (length l) (at .end)) refl
     where
-      go : (b : Bool) (r : Real) → ltb (length l) (at .end) ≡ b → realOf (partOf l at) ≡ r
-          → isFine (cond b (shortAt at ∷ []) (cond (isR r) [] (wrongAt RSort at ∷ []))) ≡ false → placesIn r ≡ 0
-      go true r short is e = rw (sym is, part-short l at short, real-none) refl
-      go false (R x p) long is e = cc
-      go false NotR long is e = refl
+      go : (b : Bool) → ltb (length l) (at .end) ≡ b → P b (realWith on (partOf l at))
+      go true e = rw (part-short l at e, real-none on) short
+      go false e = long (realWith on (partOf l at)) refl
+
+  pub unread-none : isFine (realFaults on l at) ≡ false → placesAt on l at ≡ 0
+  unfolding placesAt numberFaults
+  unread-none =
+      real-cases
+      (λ b r. isFine (cond b (shortAt at ∷ []) (cond (isR r) [] (wrongAt RSort at ∷ []))) ≡ false → placesIn r ≡ 0)
+      (λ e. refl)
+      of
+    where
+      of : (r : Real) → realWith on (partOf l at) ≡ r → isFine (cond (isR r) [] (wrongAt RSort at ∷ [])) ≡ false → placesIn r ≡ 0
+      of (R x p) is e = cc
+      of NotR is e = refl
+
+  own-is : (default : Float) → fineOf default (realWith on (partOf l at)) ≡ fineReal on l at default
+  unfolding realAt placesAt numberFaults
+  own-is default =
+      real-cases
+      (λ b r. _≡_ {A = FineReal} (fineOf default r)
+      (record { value = orR default r; places = cond (isFine (cond b (shortAt at ∷ []) (cond (isR r) [] (wrongAt RSort at ∷ [])))) (placesIn r) 255 }))
+      refl
+      of
+    where
+      of : (r : Real) → realWith on (partOf l at) ≡ r
+          → _≡_ {A = FineReal} (fineOf default r)
+          (record { value = orR default r; places = cond (isFine (cond (isR r) [] (wrongAt RSort at ∷ []))) (placesIn r) 255 })
+      of (R x p) is = refl
+      of NotR is = refl
+
+  pub fine-is : (default : Float) {r : Real} → realWith on (partOf l at) ≡ r → fineOf default r ≡ fineReal on l at default
+  fine-is default e = ap (fineOf default) (sym e) ∙ own-is default
+
+  -- a real is fine where the line reaches and its text says one
+  pub fine-says : isFine (realFaults on l at) ≡ isR (realWith on (partOf l at))
+  unfolding numberFaults
+  fine-says =
+      real-cases (λ b r. isFine (cond b (shortAt at ∷ []) (cond (isR r) [] (wrongAt RSort at ∷ []))) ≡ isR r) refl of
+    where
+      of : (r : Real) → realWith on (partOf l at) ≡ r → isFine (cond (isR r) [] (wrongAt RSort at ∷ [])) ≡ isR r
+      of (R x p) is = refl
+      of NotR is = refl
 
 pub text-one : (l : List ℕ) (at : Columns) → isFine (textFaults l at) ≡ false → textFaults l at ≡ shortAt at ∷ []
 unfolding textFaults

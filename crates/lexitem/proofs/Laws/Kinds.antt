@@ -129,12 +129,15 @@ module _ (g : Given) where
   abbrev l : List ℕ
   l = g .line
 
+  abbrev on : Bool
+  on = g .options .exponents
+
   crystal-shown : (b : Bool)
       → Shows g (crystalTable b)
       (crystalFields
       (record {
-        cell = cellOf l;
-        places = cellPlacesOf l;
+        cell = cellOf on l;
+        places = cellPlacesOf on l;
         spacegroup = textWithin l (crystal.at crystal.Field.spacegroup);
         z = zOf b l;
       }))
@@ -160,7 +163,7 @@ module _ (g : Given) where
 
   ssbond-shown : (b : Bool)
       → Shows g (ssbondTable b)
-      (ssbondFields (record { first = ssbondOf l .first; second = ssbondOf l .second; tail = tailOf b l; places = tailPlaces b l }))
+      (ssbondFields (record { first = ssbondOf on l .first; second = ssbondOf on l .second; tail = tailOf b on l; places = tailPlaces b on l }))
   ssbond-shown true = (refl, refl)
   ssbond-shown false = (refl, refl)
 

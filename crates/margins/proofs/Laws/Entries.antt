@@ -3,7 +3,7 @@
 --     Level          the lines' lengths are the same to a field
 --     level          lines of one length are level to every field
 --     Agree          the lines agree on a field's columns
---     Same           the field has the same value in both
+--     Same           the field has the same value in both, whether exponents are taken or not
 --     same-entry     lines that agree on a field's columns give it the same value
 --     fault-entry    and the same faults
 --     AgreeOn, AllSame, same-table, fault-table    so for a table
@@ -84,24 +84,24 @@ module _ (l m : List ℕ) where
   Agree e = (column : ℕ) → takes e column ≡ true → getD l column 0 ≡ getD m column 0
 
   -- an X is its columns, whatever stands there
-  abbrev pub Same : Entry → Type 0
-  Same (u at) = unsignedAt l at ≡ unsignedAt m at
-  Same (i at) = signedAt l at ≡ signedAt m at
-  Same (r at default) = (realAt l at default ≡ realAt m at default) × (placesAt l at ≡ placesAt m at)
-  Same (t at) = textAt l at ≡ textAt m at
-  Same (c at) = characterAt l (at .start) ≡ characterAt m (at .start)
-  Same (c? at) = optionalAt l (at .start) ≡ optionalAt m (at .start)
-  Same (a at) = factorAt l at ≡ factorAt m at
-  Same (u-rest start) = unsignedFrom l start ≡ unsignedFrom m start
-  Same (x at) = Unit {0}
-  Same (t-within at) = textWithin l at ≡ textWithin m at
-  Same (t-rest start) = textFrom l start ≡ textFrom m start
-  Same (t-end start) = endTextFrom l start ≡ endTextFrom m start
-  Same (charge at) = chargeAt l at ≡ chargeAt m at
-  Same (known at) = unsignedAt l at ≡ unsignedAt m at
-  Same (given column) = getD l column 0 ≡ getD m column 0
-  Same (unwritten column) = Unit {0}
-  Same (triples start) = triplesFrom 13 start l ≡ triplesFrom 13 start m
+  abbrev pub Same : Bool → Entry → Type 0
+  Same taken (u at) = unsignedAt l at ≡ unsignedAt m at
+  Same taken (i at) = signedAt l at ≡ signedAt m at
+  Same taken (r at default) = (realAt taken l at default ≡ realAt taken m at default) × (placesAt taken l at ≡ placesAt taken m at)
+  Same taken (t at) = textAt l at ≡ textAt m at
+  Same taken (c at) = characterAt l (at .start) ≡ characterAt m (at .start)
+  Same taken (c? at) = optionalAt l (at .start) ≡ optionalAt m (at .start)
+  Same taken (a at) = factorAt l at ≡ factorAt m at
+  Same taken (u-rest start) = unsignedFrom l start ≡ unsignedFrom m start
+  Same taken (x at) = Unit {0}
+  Same taken (t-within at) = textWithin l at ≡ textWithin m at
+  Same taken (t-rest start) = textFrom l start ≡ textFrom m start
+  Same taken (t-end start) = endTextFrom l start ≡ endTextFrom m start
+  Same taken (charge at) = chargeAt l at ≡ chargeAt m at
+  Same taken (known at) = unsignedAt l at ≡ unsignedAt m at
+  Same taken (given column) = getD l column 0 ≡ getD m column 0
+  Same taken (unwritten column) = Unit {0}
+  Same taken (triples start) = triplesFrom 13 start l ≡ triplesFrom 13 start m
 
   -- k triples, of which the last ends before start + 4 k
   triples-same : (k start : ℕ) → length l ≡ length m → ((n : ℕ) → start ≤ n → suc n < start + 4 * k → getD l n 0 ≡ getD m n 0)
@@ -118,25 +118,25 @@ module _ (l m : List ℕ) where
       )
       refl
 
-  pub same-entry : (e : Entry) → Level e → Agree e → Same e
+  pub same-entry : (taken : Bool) (e : Entry) → Level e → Agree e → Same taken e
   unfolding unsignedAt signedAt realAt placesAt textAt characterAt optionalAt factorAt unsignedFrom textWithin textFrom endTextFrom chargeAt
-  same-entry (u at) q h = rw (part-same l m at q h) refl
-  same-entry (i at) q h = rw (part-same l m at q h) refl
-  same-entry (r at default) q h = (rw (part-same l m at q h) refl, rw (part-same l m at q h) refl)
-  same-entry (t at) q h = rw (part-same l m at q h) refl
-  same-entry (c at) q h = rw q refl
-  same-entry (c? at) q h = rw (q, h (at .start) (eq-eqb (at .start) (at .start) refl)) refl
-  same-entry (a at) q h = rw (part-same l m at q h) refl
-  same-entry (u-rest start) q h = rw (rest-same l m q start h) refl
-  same-entry (x at) q h = tt
-  same-entry (t-within at) q h = rw (reached-same l m q at h) refl
-  same-entry (t-rest start) q h = rw (rest-same l m q start h) refl
-  same-entry (t-end start) q h = rw (rest-same l m q start h) refl
-  same-entry (charge at) q h = rw (part-same l m at q h) refl
-  same-entry (known at) q h = rw (part-same l m at q h) refl
-  same-entry (given column) q h = h column (eq-eqb column column refl)
-  same-entry (unwritten column) q h = tt
-  same-entry (triples start) q h =
+  same-entry taken (u at) q h = rw (part-same l m at q h) refl
+  same-entry taken (i at) q h = rw (part-same l m at q h) refl
+  same-entry taken (r at default) q h = (rw (part-same l m at q h) refl, rw (part-same l m at q h) refl)
+  same-entry taken (t at) q h = rw (part-same l m at q h) refl
+  same-entry taken (c at) q h = rw q refl
+  same-entry taken (c? at) q h = rw (q, h (at .start) (eq-eqb (at .start) (at .start) refl)) refl
+  same-entry taken (a at) q h = rw (part-same l m at q h) refl
+  same-entry taken (u-rest start) q h = rw (rest-same l m q start h) refl
+  same-entry taken (x at) q h = tt
+  same-entry taken (t-within at) q h = rw (reached-same l m q at h) refl
+  same-entry taken (t-rest start) q h = rw (rest-same l m q start h) refl
+  same-entry taken (t-end start) q h = rw (rest-same l m q start h) refl
+  same-entry taken (charge at) q h = rw (part-same l m at q h) refl
+  same-entry taken (known at) q h = rw (part-same l m at q h) refl
+  same-entry taken (given column) q h = h column (eq-eqb column column refl)
+  same-entry taken (unwritten column) q h = tt
+  same-entry taken (triples start) q h =
       triples-same 13 start q (λ n p s. h n (inside-in (start ⋯ (start + triplesWidth)) n p (omega arith)))
 
   module _ (options : Options) (remarks : List ℕ) where
@@ -163,9 +163,9 @@ module _ (l m : List ℕ) where
   abbrev pub AgreeOn : List Entry → Type 0
   AgreeOn es = (column : ℕ) → tableTakes es column ≡ true → getD l column 0 ≡ getD m column 0
 
-  abbrev pub AllSame : List Entry → Type 0
-  AllSame [] = Unit {0}
-  AllSame (e ∷ rest) = Same e × AllSame rest
+  abbrev pub AllSame : Bool → List Entry → Type 0
+  AllSame taken [] = Unit {0}
+  AllSame taken (e ∷ rest) = Same taken e × AllSame taken rest
 
 pub or-left : (p s : Bool) → p ≡ true → p || s ≡ true
 or-left p s e = rw e refl
@@ -175,11 +175,11 @@ or-right true s e = refl
 or-right false s e = e
 
 module _ (l m : List ℕ) (q : length l ≡ length m) where
-  pub same-table : (es : List Entry) → AgreeOn l m es → AllSame l m es
-  same-table [] h = tt
-  same-table (e ∷ es) h = (
-    same-entry l m e (level l m q e) (λ column p. h column (or-left (takes e column) (tableTakes es column) p)),
-    same-table es (λ column p. h column (or-right (takes e column) (tableTakes es column) p)),
+  pub same-table : (taken : Bool) (es : List Entry) → AgreeOn l m es → AllSame l m taken es
+  same-table taken [] h = tt
+  same-table taken (e ∷ es) h = (
+    same-entry l m taken e (level l m q e) (λ column p. h column (or-left (takes e column) (tableTakes es column) p)),
+    same-table taken es (λ column p. h column (or-right (takes e column) (tableTakes es column) p)),
   )
 
   pub fault-table : (options : Options) (remarks : List ℕ) (es : List Entry) → AgreeOn l m es

@@ -86,7 +86,7 @@ module _ (i : Input) (m : List ℕ) (d : Differ i m) where
   pub items-same : itemOf (kind i) (given i) ≡ itemOf (kind (withLine i m)) (given (withLine i m))
   items-same =
       item-same l m (i .options) (i .remarks) (kind i) parts-same
-      (same-table l m (d .long) (fieldsBy (kind i) (given i)) fields-agree)
+      (same-table l m (d .long) (i .options .exponents) (fieldsBy (kind i) (given i)) fields-agree)
       ∙ ap (λ (k : Kind). itemOf k (on (i .options) (i .remarks) m)) kinds-same
 
   pub tests-same : (a : Asking) → tests a i ≡ tests a (withLine i m)

@@ -51,36 +51,36 @@ module _ (l m : List ℕ) where
   part-decided Ter q h = refl
   part-decided End q h = refl
 
-  z-same : (b : Bool) → AllSame l m (crystalTable b) → zOf b l ≡ zOf b m
-  z-same true s = cc
-  z-same false s = refl
+  z-same : (taken b : Bool) → AllSame l m taken (crystalTable b) → zOf b l ≡ zOf b m
+  z-same taken true s = cc
+  z-same taken false s = refl
 
-  target-same : (b : Bool) → AllSame l m (seqadvTable b) → targetOf b l ≡ targetOf b m
-  target-same true s = cc
-  target-same false s = refl
+  target-same : (taken b : Bool) → AllSame l m taken (seqadvTable b) → targetOf b l ≡ targetOf b m
+  target-same taken true s = cc
+  target-same taken false s = refl
 
-  seqadv-same : (b : Bool) → hasTarget l ≡ b → hasTarget m ≡ b → AllSame l m (seqadvTable b) → seqadvOf l ≡ seqadvOf m
-  seqadv-same true p q s = let z = target-same true s in cc
-  seqadv-same false p q s = let z = target-same false s in cc
+  seqadv-same : (taken b : Bool) → hasTarget l ≡ b → hasTarget m ≡ b → AllSame l m taken (seqadvTable b) → seqadvOf l ≡ seqadvOf m
+  seqadv-same taken true p q s = let z = target-same taken true s in cc
+  seqadv-same taken false p q s = let z = target-same taken false s in cc
 
-  tail-same : (b : Bool) → AllSame l m (ssbondTable b) → tailOf b l ≡ tailOf b m
-  tail-same true s = cc
-  tail-same false s = refl
+  tail-same : (taken b : Bool) → AllSame l m taken (ssbondTable b) → tailOf b taken l ≡ tailOf b taken m
+  tail-same taken true s = cc
+  tail-same taken false s = refl
 
-  tail-counted : (b : Bool) → AllSame l m (ssbondTable b) → tailPlaces b l ≡ tailPlaces b m
-  tail-counted true s = cc
-  tail-counted false s = refl
+  tail-counted : (taken b : Bool) → AllSame l m taken (ssbondTable b) → tailPlaces b taken l ≡ tailPlaces b taken m
+  tail-counted taken true s = cc
+  tail-counted taken false s = refl
 
-  model-same : (mode : Mode) → AllSame l m (modelTable mode) → modelOf mode l ≡ modelOf mode m
-  model-same Crate s = cc
-  model-same WwPdb s = cc
+  model-same : (taken : Bool) (mode : Mode) → AllSame l m taken (modelTable mode) → modelOf mode l ≡ modelOf mode m
+  model-same taken Crate s = cc
+  model-same taken WwPdb s = cc
 
-  dbref1-same : (mode : Mode) → AllSame l m (dbref1Table mode) → dbref1Of mode l ≡ dbref1Of mode m
-  dbref1-same Crate s = cc
-  dbref1-same WwPdb s = cc
+  dbref1-same : (taken : Bool) (mode : Mode) → AllSame l m taken (dbref1Table mode) → dbref1Of mode l ≡ dbref1Of mode m
+  dbref1-same taken Crate s = cc
+  dbref1-same taken WwPdb s = cc
 
   module _ (options : Options) (remarks : List ℕ) where
-    pub item-same : (k : Kind) → describe k .part l ≡ describe k .part m → AllSame l m (tableOf (options .mode) k (describe k .part l))
+    pub item-same : (k : Kind) → describe k .part l ≡ describe k .part m → AllSame l m (options .exponents) (tableOf (options .mode) k (describe k .part l))
         → itemOf k (on options remarks l) ≡ itemOf k (on options remarks m)
     item-same Empty p s = refl
     item-same Header p s = refl
@@ -88,21 +88,21 @@ module _ (l m : List ℕ) where
     item-same Atom p s = cc
     item-same Hetatm p s = cc
     item-same Anisou p s = cc
-    item-same Cryst1 p s = let z = z-same (hasZ l) s in cc
+    item-same Cryst1 p s = let z = z-same (options .exponents) (hasZ l) s in cc
     item-same (Scale row) p s = cc
     item-same (Origx row) p s = cc
     item-same (Mtrix row) p s = cc
-    item-same Model p s = ap item.Model (model-same (options .mode) s)
+    item-same Model p s = ap item.Model (model-same (options .exponents) (options .mode) s)
     item-same Master p s = cc
     item-same Dbref p s = cc
-    item-same Dbref1 p s = ap item.Dbref1 (dbref1-same (options .mode) s)
+    item-same Dbref1 p s = ap item.Dbref1 (dbref1-same (options .exponents) (options .mode) s)
     item-same Dbref2 p s = cc
     item-same Seqres p s = cc
-    item-same Seqadv p s = ap item.Seqadv (seqadv-same (hasTarget l) refl (sym p) s)
+    item-same Seqadv p s = ap item.Seqadv (seqadv-same (options .exponents) (hasTarget l) refl (sym p) s)
     item-same Modres p s = cc
     item-same Ssbond p s =
-        let z = tail-same (hasTail l) s in
-        let n = tail-counted (hasTail l) s in
+        let z = tail-same (options .exponents) (hasTail l) s in
+        let n = tail-counted (options .exponents) (hasTail l) s in
         cc
     item-same Endmdl p s = refl
     item-same Ter p s = refl

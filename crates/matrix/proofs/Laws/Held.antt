@@ -1,24 +1,24 @@
 -- What a field of a line holds is held: a double that is near a written number, and the default 0.0.
---     near-held                    a double near a number of up to ten digits
---     real-held                    so every real that a text says
+--     near-held                    a double near a number of up to ten digits, times a power of ten up to 10 ^ 22 or over one
+--     real-held                    so every real that a text says, with an exponent or without
 --     position-held, row-held      and the positions and rows of any line, read with faults or without
 -- Assumes nothing.
 use mathlib.Core.Path.{_≡_, refl}
-use Prim.Native.Nat.{ℕ, _+_, _*_, _^_, _≤_, _<_}
-use native.Mathlib.Nat.{le-trans, lt-of-lt-of-le, lt-of-le-of-lt, mul-assoc, le-mul-of-pos-right, zero-lt-suc, one-le-pow, add-mul}
+use Prim.Native.Nat.{ℕ, zero, suc, _+_, _*_, _^_, _≤_, _<_}
+use native.Mathlib.Nat.{le-trans, le-of-eq, lt-of-lt-of-le, lt-of-le-of-lt, lt-of-not-le, not-le-of-lt, mul-assoc, mul-comm, mul-pos, suc-mul, zero-mul, mul-le-mul-right}
+use native.Mathlib.Nat.{mul-lt-mul-of-pos-right, le-mul-of-pos-right, zero-lt-suc, pow-le-pow-right}
 use native.Mathlib.Omega.{arith}
 use mathlib.Core.Bool.{Bool, false}
 use mathlib.Core.List.{List}
 use lib.Dec.{lit≤, lit<}
-use lib.Pow.{pow-pos, shl-lt}
+use lib.Pow.{pow-pos, pow-add}
 use lib.Ieee.{Float}
-use Rattle.number.proofs.Laws.Width.{decimal-limits}
-use Rattle.real.specs.Near.{Near, apart}
-use Rattle.real.specs.Real.{realOf}
+use Rattle.real.specs.Near.{NearOver, apart}
+use Rattle.real.specs.Wide.{raised, lowered, realWith}
 use Rattle.real.specs.declared.Real.{Real}
 use Rattle.real.specs.declared.Real.the-variants.{R, NotR}
-use Rattle.real.proofs.Laws.Value.{value-same}
-use Rattle.real.proofs.Laws.Real.{real-near}
+use Rattle.real.proofs.Laws.Quotient.{ten-pos}
+use Rattle.real.proofs.Laws.WideReal.{with-is, said-finer}
 use Rattle.line.specs.Columns.{partOf}
 use Rattle.line.specs.declared.columns.Columns.{Columns}
 use Rattle.field.specs.Number.{realAt, orR, zeroReal}
@@ -26,44 +26,70 @@ use Rattle.transformation.specs.Transformation.{transformationOf}
 use Rattle.atom.specs.Atom.{positionOf}
 use Rattle.matrix.specs.Bound.{Held, HeldRow, HeldPosition}
 
-twice : (v n : ℕ) → apart v n * 2 ^ 53 ≤ n → v ≤ n + n
-twice v n h = omega arith
+-- with u = 10 ^ a 2 ^ 126: |w - m u| 2 ^ 53 ≤ m u < 2 ^ 53 u, so w < m u + u ≤ 10 ^ 10 u
+within : (k d u : ℕ) → k * 2 ^ 53 ≤ d → d < u * 2 ^ 53 → k < u
+within k d u near less = lt-of-not-le (λ (h : u ≤ k). not-le-of-lt (lt-of-le-of-lt near less) (mul-le-mul-right (2 ^ 53) h))
 
--- V ≤ V 10 ^ p ≤ 2 M 2 ^ t
-small : (v n p t e : ℕ) → apart (v * 10 ^ p) (n * 2 ^ t) * 2 ^ 53 ≤ n * 2 ^ t → n + n < 2 ^ e → v < 2 ^ (e + t)
-small v n p t e h l =
-    let over = le-mul-of-pos-right v (one-le-pow p 10 (zero-lt-suc 9)) in
-    lt-of-le-of-lt (le-trans over (twice (v * 10 ^ p) (n * 2 ^ t) h)) (rw (add-mul n n (2 ^ t)) at (shl-lt e t l))
+reaches : (w d u : ℕ) → apart w d < u → d + u ≤ 10 ^ 10 * u → w < 10 ^ 10 * u
+reaches w d u less most = omega arith
 
--- V over 2 ^ 82 is V 2 ^ 44 over 2 ^ 126
-pub near-held : (s : Bool) (m p : ℕ) (x : Float) → Near s m p x → m < 10 ^ 10 → Held x
-near-held s m p x h few =
-    let n = h .parts in
-    let room : m + m < 2 ^ 36 = omega arith in
-    record {
-      isMinus = s;
-      parts = n * 2 ^ 44;
-      value = value-same x s n (2 ^ 82) (n * 2 ^ 44) (2 ^ 126) (pow-pos 82) (mul-assoc n (2 ^ 44) (2 ^ 82)) (h .value);
-      small = lt-of-lt-of-le (shl-lt 118 44 (small n m p 82 36 (h .close) room)) (lit≤ tt);
-    }
+under : (w d u : ℕ) → apart w d * 2 ^ 53 ≤ d → d < u * 2 ^ 53 → d + u ≤ 10 ^ 10 * u → w < 10 ^ 10 * u
+under w d u near less most = reaches w d u (within (apart w d) d u near less) most
 
-pub real-held : (t : List ℕ) {x : Float} {p : ℕ} → realOf t ≡ R x p → Held x
-real-held t {x} {p} e = let (s, m, d, near) = real-near t e in near-held s m p x near (decimal-limits t d .0)
+next-is : (m u : ℕ) → m * u + u ≡ suc m * u
+next-is m u = omega (arith, suc-mul m u)
+
+none : (w : ℕ) → apart w 0 * 2 ^ 53 ≤ 0 → w ≡ 0
+none w h = omega arith
+
+-- V ≤ V 10 ^ b < 10 ^ 10 10 ^ a 2 ^ 126 ≤ 10 ^ 32 2 ^ 126
+some-small : (v m a b : ℕ) → m < 10 ^ 10 → a ≤ 22 → apart (v * 10 ^ b) (m * 10 ^ a * 2 ^ 126) * 2 ^ 53 ≤ m * 10 ^ a * 2 ^ 126 → v < 10 ^ 32 * 2 ^ 126
+some-small v m a b few short near =
+    let u = 10 ^ a * 2 ^ 126 in
+    let some : 0 < u = mul-pos (ten-pos a) (pow-pos 126) in
+    let less : m * u < u * 2 ^ 53 = rw (mul-comm u (2 ^ 53)) (mul-lt-mul-of-pos-right (lt-of-lt-of-le few (lit≤ tt)) some) in
+    let next : m * u + u ≤ 10 ^ 10 * u = le-trans (le-of-eq (next-is m u)) (mul-le-mul-right u few) in
+    let below : v * 10 ^ b < 10 ^ 10 * u = under (v * 10 ^ b) (m * u) u (rw (mul-assoc m (10 ^ a) (2 ^ 126)) at near) less next in
+    let top : 10 + a ≤ 32 = omega arith in
+    let tens : 10 ^ 10 * 10 ^ a ≤ 10 ^ 32 = rw (← pow-add 10 10 a) (pow-le-pow-right (zero-lt-suc 9) top) in
+    let all : 10 ^ 10 * u ≤ 10 ^ 32 * 2 ^ 126 = rw (← mul-assoc (10 ^ 10) (10 ^ a) (2 ^ 126)) (mul-le-mul-right (2 ^ 126) tens) in
+    lt-of-le-of-lt (le-mul-of-pos-right v (ten-pos b)) (lt-of-lt-of-le below all)
+
+-- of 0 nothing is left, however high the power is
+zero-small : (v a b : ℕ) → apart (v * 10 ^ b) (0 * 10 ^ a * 2 ^ 126) * 2 ^ 53 ≤ 0 * 10 ^ a * 2 ^ 126 → v < 10 ^ 32 * 2 ^ 126
+zero-small v a b near =
+    let flat = rw (zero-mul (10 ^ a), zero-mul (2 ^ 126)) at near in
+    lt-of-le-of-lt (le-trans (le-mul-of-pos-right v (ten-pos b)) (le-of-eq (none (v * 10 ^ b) flat))) (lit< tt)
+
+small : (v m a b : ℕ) → m < 10 ^ 10 → ((m ≡ 0 → ⊥) → a ≤ 22) → apart (v * 10 ^ b) (m * 10 ^ a * 2 ^ 126) * 2 ^ 53 ≤ m * 10 ^ a * 2 ^ 126
+    → v < 10 ^ 32 * 2 ^ 126
+small v zero a b few short near = zero-small v a b near
+small v (suc m) a b few short near = some-small v (suc m) a b few (short (λ e. omega arith)) near
+
+pub near-held : (s : Bool) (m a b : ℕ) (x : Float) → NearOver 126 s (m * 10 ^ a) b x → m < 10 ^ 10 → ((m ≡ 0 → ⊥) → a ≤ 22) → Held x
+near-held s m a b x h few short =
+    record { isMinus = s; parts = h .parts; value = h .value; small = small (h .parts) m a b few short (h .close) }
+
+pub real-held : (on : Bool) (t : List ℕ) {x : Float} {p : ℕ} → realWith on t ≡ R x p → Held x
+real-held on t {x} {p} e =
+    let w = with-is on t e in
+    near-held (w .isMinus) (w .m) (raised (w .lower) (w .x) p) (lowered (w .lower) (w .x) p) x (said-finer on (w .near)) (w .few) (w .high)
 
 zero-held : Held zeroReal
 zero-held = record { isMinus = false; parts = 0; value = (refl, refl); small = lit< tt }
 
 -- ---- of a line
-field-held : (l : List ℕ) (at : Columns) → Held (realAt l at zeroReal)
-unfolding realAt
-field-held l at = go (realOf (partOf l at)) refl
-  where
-    go : (r : Real) → realOf (partOf l at) ≡ r → Held (orR zeroReal r)
-    go (R x p) e = real-held (partOf l at) e
-    go NotR e = zero-held
+module _ (on : Bool) (l : List ℕ) where
+  field-held : (at : Columns) → Held (realAt on l at zeroReal)
+  unfolding realAt
+  field-held at = go (realWith on (partOf l at)) refl
+    where
+      go : (r : Real) → realWith on (partOf l at) ≡ r → Held (orR zeroReal r)
+      go (R x p) e = real-held on (partOf l at) e
+      go NotR e = zero-held
 
-pub position-held : (l : List ℕ) → HeldPosition (positionOf l)
-position-held l = record { x = field-held l _; y = field-held l _; z = field-held l _ }
+  pub position-held : HeldPosition (positionOf on l)
+  position-held = record { x = field-held _; y = field-held _; z = field-held _ }
 
-pub row-held : (l : List ℕ) → HeldRow (transformationOf l)
-row-held l = record { a = field-held l _; b = field-held l _; c = field-held l _; d = field-held l _ }
+  pub row-held : HeldRow (transformationOf on l)
+  row-held = record { a = field-held _; b = field-held _; c = field-held _; d = field-held _ }

@@ -2,6 +2,10 @@
 --     unsigned-form, unsigned-read     U: an optional plus and one or more digits, below 2^64
 --     signed-form, signed-read         I: an optional sign and one or more digits, within 64 bits
 --     decimal-form, decimal-read       R: an optional sign, digits, an optional point and digits, in at most ten bytes
+--     plain-form, plain-read           the same of a text as it stands, of any length
+--     sign-form, sign-read             an optional sign, and what stands behind it
+--     no-sign                          digits don't begin with one
+--     some-form, some-read             one or more digits
 -- Assumes nothing.
 use Prim.Native.Nat.{ℕ, _^_, _<_}
 use mathlib.Core.Path.{_≡_, refl, sym, ap, _∙_}
@@ -16,7 +20,7 @@ use Rattle.number.specs.Trim.{trimmed}
 use Rattle.number.specs.Whole.{digit, digits, someDigits, valueOf, begins, afterPlus, afterSign, most, withSign}
 use Rattle.number.specs.Whole.{digitsOf, unsignedOf, signedDigits, signedOf}
 use Rattle.number.specs.Decimal.{beforePoint, behindPoint, withoutPoint, plainOf, decimalOf}
-use Rattle.number.specs.Grammar.{Plus, Sign, Fraction, SaysU, SaysI, SaysR}
+use Rattle.number.specs.Grammar.{Plus, Sign, Fraction, SaysU, SaysI, SaysPlain, SaysR}
 use Rattle.number.specs.declared.whole.Unsigned.the-variants.{U, NotU}
 use Rattle.number.specs.declared.whole.Signed.the-variants.{I, NotI}
 use Rattle.number.specs.declared.decimal.Decimal.the-variants.{Plain, NotPlain}
@@ -42,7 +46,7 @@ unfolding afterPlus begins
 plus-read Plus.none d n = rw n refl
 plus-read Plus.plus d n = refl
 
-sign-form : (t : List ℕ) → (s : List ℕ) × Sign (begins 45 t) s × (t ≡ s ++ afterSign t)
+pub sign-form : (t : List ℕ) → (s : List ℕ) × Sign (begins 45 t) s × (t ≡ s ++ afterSign t)
 unfolding afterSign begins
 sign-form [] = ([], Sign.unsigned, refl)
 sign-form (b ∷ t) = go (eqb b 43) (eqb b 45) refl refl
@@ -53,7 +57,7 @@ sign-form (b ∷ t) = go (eqb b 43) (eqb b 45) refl refl
     go false true e f = (45 ∷ [], Sign.minus, first 45 b t f)
     go false false e f = ([], Sign.unsigned, refl)
 
-sign-read : {m : Bool} {s : List ℕ} → Sign m s → (d : List ℕ) → begins 43 d ≡ false → begins 45 d ≡ false
+pub sign-read : {m : Bool} {s : List ℕ} → Sign m s → (d : List ℕ) → begins 43 d ≡ false → begins 45 d ≡ false
     → (begins 45 (s ++ d) ≡ m) × (afterSign (s ++ d) ≡ d)
 unfolding afterSign begins
 sign-read Sign.unsigned d p q = (q, rw (p, q) refl)
@@ -67,15 +71,15 @@ begins-digits k [] Fraction.whole l e = refl
 begins-digits k [] (Fraction.point u) l e = ne-eqb 46 k (λ q. omega arith)
 begins-digits k (b ∷ d) f l e = digit-not k b (omega arith) (and-left (digit b) (digits d) e)
 
-no-sign : (k : ℕ) (d : List ℕ) → k < 46 → digits d ≡ true → begins k d ≡ false
+pub no-sign : (k : ℕ) (d : List ℕ) → k < 46 → digits d ≡ true → begins k d ≡ false
 no-sign k d l e = rw (append-nil d) at (begins-digits k d Fraction.whole l e)
 
 -- one or more digits
-some-form : (d : List ℕ) → someDigits d ≡ true → (0 < length d) × (digits d ≡ true)
+pub some-form : (d : List ℕ) → someDigits d ≡ true → (0 < length d) × (digits d ≡ true)
 some-form d e =
     (ltb-true 0 (length d) (and-left (ltb 0 (length d)) (digits d) e), and-right (ltb 0 (length d)) (digits d) e)
 
-some-read : (d : List ℕ) → 0 < length d → digits d ≡ true → someDigits d ≡ true
+pub some-read : (d : List ℕ) → 0 < length d → digits d ≡ true → someDigits d ≡ true
 some-read d h e = and-both (lt-ltb 0 (length d) h) e
 
 -- ---- whole numbers
@@ -118,16 +122,15 @@ signed-read h =
     rw (h .text, m, a, some-read d (h .some) (h .each), le-leb (valueOf d) (most (h .isMinus)) (h .limit), ← h .value) refl
 
 -- ---- plain decimals
-pub decimal-form : (t : List ℕ) {s : Bool} {m p : ℕ} → decimalOf t ≡ Plain s m p → SaysR t s m p
-unfolding decimalOf plainOf withoutPoint
-decimal-form t {s} e =
-    let (g, signed, text) = sign-form (trimmed t) in
-    let u = afterSign (trimmed t) in
+pub plain-form : (t : List ℕ) {s : Bool} {m p : ℕ} → plainOf (begins 45 t) (afterSign t) ≡ Plain s m p → SaysPlain t s m p
+unfolding plainOf withoutPoint
+plain-form t {s} e =
+    let (g, signed, text) = sign-form t in
+    let u = afterSign t in
     let d = withoutPoint u in
     let (tail, f, split) = point-split u in
-    let isMinus = begins 45 (trimmed t) in
-    let (w, v) = chosen (leb (length (trimmed t)) 10) (plainOf isMinus u) NotPlain e (λ q. cc) in
-    let (c, r) = chosen (someDigits d) (Plain isMinus (valueOf d) (length (behindPoint u))) NotPlain v (λ q. cc) in
+    let isMinus = begins 45 t in
+    let (c, r) = chosen (someDigits d) (Plain isMinus (valueOf d) (length (behindPoint u))) NotPlain e (λ q. cc) in
     let (some, each) = some-form d c in
     let same : isMinus ≡ s = cc in
     record {
@@ -138,21 +141,30 @@ decimal-form t {s} e =
       signed = rw same at signed;
       fraction = f;
       text = text ∙ ap (λ (l : List ℕ). g ++ l) split ∙ sym (append-assoc g (beforePoint u) tail);
-      width = leb-true (length (trimmed t)) 10 w;
       some = some;
       each = each;
       value = cc;
       places = cc;
     }
 
-pub decimal-read : {t : List ℕ} {s : Bool} {m p : ℕ} → SaysR t s m p → decimalOf t ≡ Plain s m p
-unfolding decimalOf
-decimal-read {t} {s} h =
+pub plain-read : {t : List ℕ} {s : Bool} {m p : ℕ} → SaysPlain t s m p → plainOf (begins 45 t) (afterSign t) ≡ Plain s m p
+plain-read {s = s} h =
     let d = h .front in
     let u = h .behind in
     let f = h .fraction in
     let each = and-left (digits d) (digits u) (sym (digits-append d u) ∙ h .each) in
     let (m, a) =
     sign-read (h .signed) (d ++ h .tail) (begins-digits 43 d f (lit< tt) each) (begins-digits 45 d f (lit< tt) each) in
-    rw (le-leb (length (trimmed t)) 10 (h .width), h .text, append-assoc (h .sign) d (h .tail), m, a, plain-parted s d f each)
+    rw (h .text, append-assoc (h .sign) d (h .tail), m, a, plain-parted s d f each)
     (rw (some-read (d ++ u) (h .some) (h .each), ← h .value, ← h .places) refl)
+
+pub decimal-form : (t : List ℕ) {s : Bool} {m p : ℕ} → decimalOf t ≡ Plain s m p → SaysR t s m p
+unfolding decimalOf
+decimal-form t e =
+    let u = trimmed t in
+    let (w, v) = chosen (leb (length u) 10) (plainOf (begins 45 u) (afterSign u)) NotPlain e (λ q. cc) in
+    record { plain = plain-form u v; width = leb-true (length u) 10 w }
+
+pub decimal-read : {t : List ℕ} {s : Bool} {m p : ℕ} → SaysR t s m p → decimalOf t ≡ Plain s m p
+unfolding decimalOf
+decimal-read {t} h = rw (le-leb (length (trimmed t)) 10 (h .width)) (plain-read (h .plain))

@@ -2,6 +2,7 @@
 --     unsigned-below, signed-below, decimal-below     w columns give a number below 10 ^ w, its sign and its point left out
 --     signed-within                                   the same of a text of up to w columns
 --     unsigned-fits, signed-fits                      a whole number is within 64 bits
+--     plain-within                                    a plain decimal of up to w bytes says an M below 10 ^ w, and p is below w
 --     decimal-limits                                  M is below 10 ^ 10, and p is at most 9
 -- Assumes nothing.
 use Prim.Native.Nat.{ℕ, zero, suc, _-_, _^_, _≤_, _<_}
@@ -16,7 +17,7 @@ use lib.Signed.{mag}
 use Rattle.number.specs.Trim.{trimmed}
 use Rattle.number.specs.Whole.{digits, valueOf, most, withSign, unsignedOf, signedOf}
 use Rattle.number.specs.Decimal.{decimalOf}
-use Rattle.number.specs.Grammar.{Fraction}
+use Rattle.number.specs.Grammar.{Fraction, SaysPlain}
 use Rattle.number.specs.declared.whole.Unsigned.the-variants.{U}
 use Rattle.number.specs.declared.whole.Signed.the-variants.{I}
 use Rattle.number.specs.declared.decimal.Decimal.the-variants.{Plain}
@@ -62,17 +63,15 @@ fraction-le : {t u : List ℕ} → Fraction t u → length u ≤ length t - 1
 fraction-le Fraction.whole = omega arith
 fraction-le (Fraction.point u) = omega arith
 
-decimal-within : (t : List ℕ) {s : Bool} {m p : ℕ} → decimalOf t ≡ Plain s m p → (w : ℕ) → length (trimmed t) ≤ w
-    → (m < 10 ^ w) × (p ≤ w - 1)
-decimal-within t e w l =
-    let h = decimal-form t e in
+pub plain-within : {t : List ℕ} {s : Bool} {m p : ℕ} → SaysPlain t s m p → (w : ℕ) → length t ≤ w → (m < 10 ^ w) × (p ≤ w - 1)
+plain-within h w l =
     let n = simp length-append at (ap length (h .text)) in
     let d = h .front ++ h .behind in
     let f = fraction-le (h .fraction) in
     (rw (h .value) (value-below d w (h .each) (simp length-append (omega arith))), rw (h .places) (omega arith))
 
 pub decimal-below : (t : List ℕ) {s : Bool} {m p : ℕ} → decimalOf t ≡ Plain s m p → m < 10 ^ length t
-decimal-below t e = decimal-within t e (length t) (trimmed-le t) .0
+decimal-below t e = plain-within (decimal-form t e .plain) (length t) (trimmed-le t) .0
 
 pub decimal-limits : (t : List ℕ) {s : Bool} {m p : ℕ} → decimalOf t ≡ Plain s m p → (m < 10 ^ 10) × (p ≤ 9)
-decimal-limits t e = decimal-within t e 10 (decimal-form t e .width)
+decimal-limits t e = let h = decimal-form t e in plain-within (h .plain) 10 (h .width)

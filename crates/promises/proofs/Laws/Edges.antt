@@ -1,15 +1,25 @@
 -- "P1 to P12 are one list of cases with a single theorem about it": every claim of every case is found, each by computing the answer.
---     edges-found       P1 to P12
---     defaults-found    a case for each default, with the sort of each number field
---     readings-found    triples, a residue of the database, trimming, the digits after a point
+--     edges-found        P1 to P12
+--     defaults-found     a case for each default, with the sort of each number field
+--     readings-found     triples, a residue of the database, trimming, the digits after a point
+-- each with the option for exponents on and off: no case has an exponent in a real field, so the answers are the same
+--     exponents-found    the cases of 2026-10
+--     zero-far           a zero is read however large its exponent is: this one isn't computed, since its power isn't
 -- One line of a proof is one case, in the list's order, so that a failure names its case. Assumes nothing.
-use mathlib.Core.Path.{refl}
-use lib.Ieee.{div, neg, ofInt, ofBits}
+use mathlib.Core.Path.{_≡_, refl, _∙_}
+use mathlib.Core.Bool.{Bool, true, false, _&&_}
+use mathlib.Core.List.{List, [], _∷_}
+use lib.Ieee.{binary64, div, neg, ofInt, ofBits, round}
 use Rattle.number.specs.Trim.{white, leading, kept, endTrimmed, trimmed, spanOf}
 use Rattle.number.specs.Whole.{digit, digits, valueFrom, begins, afterPlus, afterSign, digitsOf, unsignedOf, signedDigits, signedOf}
 use Rattle.number.specs.Decimal.{beforePoint, behindPoint, withoutPoint, plainOf, decimalOf}
+use Rattle.number.specs.Wide.{mark, markAt, markedParts, markedIn, markedOf, wideOf}
+use Rattle.number.specs.declared.wide.Wide.the-variants.{W}
 use Rattle.real.specs.Double.{doubleOf}
 use Rattle.real.specs.Real.{realOf, tenThousandth, tenThousandthsOf}
+use Rattle.real.specs.Wide.{nearestTo, realWith}
+use Rattle.real.specs.declared.Real.the-variants.{R}
+use Rattle.real.proofs.Laws.WideReal.{wide-zero}
 use Rattle.line.specs.Columns.{partOf, reachedOf, restOf}
 use Rattle.line.specs.Faults.{noFaults, noted, listed}
 use Rattle.field.specs.Number.{numberFaults, unsignedAt, signedAt, realAt, placesAt, factorAt, unsignedFrom, unsignedFromFaults}
@@ -22,14 +32,20 @@ use Rattle.kind.specs.Kind.{kindOf}
 use Rattle.lexitem.specs.Describe.{faultsOf}
 use Rattle.lexer.specs.Refusals.{plain}
 use Rattle.lexer.specs.Lexed.{lexed}
-use Rattle.promises.specs.Edges.{CasesFound, edges}
+use Rattle.promises.specs.Edges.{Case, ClaimsFound, CasesFound, answerTo, casesWith, edges, exponents}
 use Rattle.promises.specs.Defaults.{defaults, readings}
+use Rattle.promises.specs.Idle.{idle}
+use Rattle.promises.proofs.Laws.Idle.{exponents-idle}
+use Rattle.number.proofs.Laws.Choice.{and-left, and-right}
+use Rattle.line.specs.Bytes.{bytes}
+use Rattle.lexer.specs.Refusals.{Input}
 
 -- all that an answer computes through, from the numbers up
 unfoldable opened : Unit {0}
 unfolding
     white leading kept endTrimmed trimmed spanOf digit digits valueFrom begins afterPlus afterSign digitsOf unsignedOf signedDigits signedOf
     beforePoint behindPoint withoutPoint plainOf decimalOf doubleOf realOf tenThousandth tenThousandthsOf div neg ofInt ofBits
+    mark markAt markedParts markedIn markedOf wideOf nearestTo realWith round
     partOf reachedOf restOf noFaults noted listed
     numberFaults unsignedAt signedAt realAt placesAt factorAt unsignedFrom unsignedFromFaults
     textAt textFaults textWithin textFrom endTextFrom characterAt optionalAt characterFaults
@@ -41,9 +57,9 @@ infixr 5 _&_
 abbrev _&_ : {A B : Type 0} → A → B → A × B
 a & b = (a, b)
 
-pub edges-found : CasesFound edges
+edges-off : CasesFound (casesWith false edges)
 unfolding opened
-edges-found =
+edges-off =
     -- P1
     (refl & tt)
     -- P2
@@ -91,9 +107,9 @@ edges-found =
     & ((_, refl, refl) & refl & tt)
     & tt
 
-pub defaults-found : CasesFound defaults
+defaults-off : CasesFound (casesWith false defaults)
 unfolding opened
-defaults-found =
+defaults-off =
     -- ATOM, HETATM, ANISOU
     (refl & refl & tt)
     & (refl & tt)
@@ -136,9 +152,9 @@ defaults-found =
     & (refl & refl & tt)
     & tt
 
-pub readings-found : CasesFound readings
+readings-off : CasesFound (casesWith false readings)
 unfolding opened
-readings-found =
+readings-off =
     -- triples
     ((_, refl, refl) & refl & tt)
     & ((_, refl, refl) & refl & tt)
@@ -159,3 +175,64 @@ readings-found =
     & ((_, refl, refl) & refl & tt)
     & ((_, refl, refl) & refl & tt)
     & tt
+
+-- ---- with the option on
+abbrev inputOf : Case → Input
+inputOf c = record { line = c .line; number = 0; options = c .options; remarks = c .remarks }
+
+abbrev allIdle : List Case → Bool
+allIdle [] = true
+allIdle (c ∷ rest) = idle (inputOf c) && allIdle rest
+
+cases-either : (cases : List Case) → allIdle cases ≡ true → CasesFound (casesWith false cases) → (on : Bool) → CasesFound (casesWith on cases)
+cases-either [] e h on = tt
+cases-either (c ∷ rest) e h on = (
+  rw (exponents-idle (inputOf c) on (and-left (idle (inputOf c)) (allIdle rest) e)) (h .0),
+  cases-either rest (and-right (idle (inputOf c)) (allIdle rest) e) (h .1) on,
+)
+
+edges-idle : allIdle edges ≡ true
+unfolding opened
+edges-idle = refl
+
+defaults-idle : allIdle defaults ≡ true
+unfolding opened
+defaults-idle = refl
+
+readings-idle : allIdle readings ≡ true
+unfolding opened
+readings-idle = refl
+
+pub edges-found : (on : Bool) → CasesFound (casesWith on edges)
+edges-found = cases-either edges edges-idle edges-off
+
+pub defaults-found : (on : Bool) → CasesFound (casesWith on defaults)
+defaults-found = cases-either defaults defaults-idle defaults-off
+
+pub readings-found : (on : Bool) → CasesFound (casesWith on readings)
+readings-found = cases-either readings readings-idle readings-off
+
+pub exponents-found : CasesFound exponents
+unfolding opened
+exponents-found =
+    ((_, refl, refl) & (_, refl, refl) & (_, refl, refl) & (_, refl, refl) & refl & tt)
+    & ((_, refl, refl) & (_, refl, refl) & (_, refl, refl) & (_, refl, refl) & refl & tt)
+    & ((_, refl, refl) & (_, refl, refl) & (_, refl, refl) & (_, refl, refl) & refl & tt)
+    & ((_, refl, refl) & (_, refl, refl) & (_, refl, refl) & (_, refl, refl) & refl & tt)
+    & ((_, refl, refl) & (_, refl, refl) & (_, refl, refl) & (_, refl, refl) & refl & tt)
+    & ((_, refl, refl) & (_, refl, refl) & (_, refl, refl) & (_, refl, refl) & refl & tt)
+    & ((_, refl, refl) & (_, refl, refl) & (_, refl, refl) & (_, refl, refl) & refl & tt)
+    & ((_, refl, refl) & refl & tt)
+    & ((_, refl, refl) & (_, refl, refl) & refl & tt)
+    & ((_, refl, refl) & refl & tt)
+    & tt
+
+pub zero-far : realWith true (bytes "0e99999999") ≡ R (ofBits binary64 0) 0
+unfolding realWith
+zero-far = rw says (wide-zero false 0 0 false 99999999 refl) ∙ same
+  where
+    says : wideOf (bytes "0e99999999") ≡ W false 0 0 false 99999999
+    says = unfold opened in refl
+
+    same : R (nearestTo false 0 0 0) 0 ≡ R (ofBits binary64 0) 0
+    same = unfold opened in refl

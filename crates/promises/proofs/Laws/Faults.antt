@@ -7,7 +7,7 @@
 -- Assumes nothing.
 use Prim.Native.Nat.{_≤_}
 use mathlib.Core.Path.{_≡_, refl}
-use mathlib.Core.Bool.{false}
+use mathlib.Core.Bool.{Bool, false}
 use lib.ListN.{length, replicate}
 use Rattle.line.specs.Bytes.{bytes}
 use Rattle.line.specs.Columns.{partOf}
@@ -29,17 +29,17 @@ pub faults-few : (i : Input) → length (faultsOf (kind i) (given i)) ≤ 15
 faults-few i = faults-fifteen (kind i) (given i)
 
 -- an ANISOU of seven bytes
-abbrev pub seven : Mode → Input
-seven mode = record {
+abbrev pub seven : Mode → Bool → Input
+seven mode exponents = record {
   line = bytes "ANISOU ";
   number = 1;
-  options = record { atoms = false; loose = false; mode = mode };
+  options = record { atoms = false; loose = false; mode = mode; exponents = exponents };
   remarks = replicate 1000 1;
 }
 
-pub fifteen-given : (mode : Mode) → lexed (seven mode) .faults .count ≡ 15
+pub fifteen-given : (mode : Mode) (exponents : Bool) → lexed (seven mode exponents) .faults .count ≡ 15
 unfolding lexed plain kindOf faultsOf noFaults noted numberFaults textFaults characterFaults chargeFaults charged partOf
-fifteen-given mode = refl
+fifteen-given mode exponents = refl
 
 module _ (i : Input) (x : LexItem) (e : lexed i .outcome ≡ Accepted x) where
   pub faults-listed : listed (lexed i .faults) ≡ faultsOf (kind i) (given i)

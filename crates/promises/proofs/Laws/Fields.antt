@@ -76,7 +76,7 @@ entry-shown : (g : Given) (e : Entry) (rows : List Row) (fs : List RealField) �
 entry-shown g (u at) rows fs h = h
 entry-shown g (i at) rows fs h = h
 entry-shown g (r at default) rows fs h =
-    ap (λ (rest : List (ℕ × Form × Float)). (at .start, Form.decimal (placesAt (g .line) at), realAt (g .line) at default) ∷ rest) h
+    ap (λ (rest : List (ℕ × Form × Float)). (at .start, Form.decimal (placesAt (g .options .exponents) (g .line) at), realAt (g .options .exponents) (g .line) at default) ∷ rest) h
 entry-shown g (t at) rows fs h = h
 entry-shown g (c at) rows fs h = h
 entry-shown g (c? at) rows fs h = h

@@ -12,7 +12,8 @@ use borrow.Author.Tests.{eq-eqb}
 use lib.ListN.{length, getD}
 use lib.Dec.{ltb, eqb}
 use Rattle.number.specs.Whole.{digit, unsignedOf, signedOf}
-use Rattle.real.specs.Real.{realOf, tenThousandthsOf}
+use Rattle.real.specs.Real.{tenThousandthsOf}
+use Rattle.real.specs.Wide.{realWith}
 use Rattle.line.specs.Columns.{partOf, restOf}
 use Rattle.line.specs.declared.columns.Columns.{Columns}
 use Rattle.line.specs.declared.fault.Fault.{Fault}
@@ -118,7 +119,7 @@ module _ (at : Columns) where
   unfolding textFaults unsignedFromFaults knownFaults
   entry-clear g (u columns) e = number-clear (g .line) columns USort (isU (unsignedOf (partOf (g .line) columns))) e
   entry-clear g (i columns) e = number-clear (g .line) columns ISort (isI (signedOf (partOf (g .line) columns))) e
-  entry-clear g (r columns default) e = number-clear (g .line) columns RSort (isR (realOf (partOf (g .line) columns))) e
+  entry-clear g (r columns default) e = number-clear (g .line) columns RSort (isR (realWith (g .options .exponents) (partOf (g .line) columns))) e
   entry-clear g (t columns) e = either-clear (ltb (length (g .line)) (columns .end)) (shortAt columns) [] e none-named
   entry-clear g (c columns) e = character-clear (g .line) (columns .start) e
   entry-clear g (c? columns) e = character-clear (g .line) (columns .start) e

@@ -17,7 +17,8 @@ use lib.ListN.{length}
 use lib.Dec.{leb, eqb}
 use lib.Ieee.{Float}
 use lib.Ieee.Scale.{finite}
-use Rattle.real.specs.Real.{realOf, tenThousandthsOf}
+use Rattle.real.specs.Real.{tenThousandthsOf}
+use Rattle.real.specs.Wide.{realWith}
 use Rattle.real.specs.declared.Real.{Real}
 use Rattle.number.proofs.Laws.Choice.{and-left, and-right}
 use Rattle.line.specs.Columns.{partOf}
@@ -37,13 +38,13 @@ entryAs Form.integer columns default = a columns
 abbrev pub entryOf : RealField → Entry
 entryOf f = entryAs (f .form) (f .columns) (f .default)
 
-abbrev pub readAs : Form → List ℕ → Real
-readAs (Form.decimal places) text = realOf text
-readAs Form.integer text = tenThousandthsOf text
+abbrev pub readAs : Bool → Form → List ℕ → Real
+readAs on (Form.decimal places) text = realWith on text
+readAs on Form.integer text = tenThousandthsOf text
 
 -- what the line's text says in the field's columns
-abbrev pub readIn : List ℕ → RealField → Real
-readIn l f = readAs (f .form) (partOf l (f .columns))
+abbrev pub readIn : Bool → List ℕ → RealField → Real
+readIn on l f = readAs on (f .form) (partOf l (f .columns))
 
 abbrev pub formAs : Form → Real → Form
 formAs (Form.decimal places) text = Form.decimal (placesIn text)
@@ -71,11 +72,11 @@ looked es f = record {
   finite = finite (f .default);
 }
 
-abbrev pub due : List ℕ → RealField → Look
-due l f = record {
+abbrev pub due : Given → RealField → Look
+due g f = record {
   entries = entryOf f ∷ [];
-  form = formAs (f .form) (readIn l f);
-  value = orR (f .default) (readIn l f);
+  form = formAs (f .form) (readIn (g .options .exponents) (g .line) f);
+  value = orR (f .default) (readIn (g .options .exponents) (g .line) f);
   narrow = true;
   finite = true;
 }
@@ -141,8 +142,8 @@ module _ (test : Entry → Bool) where
 module _ (g : Given) (es : List Entry) where
   real-looks : (at : Columns) (default : Float) → List·Memᴰ (r at default) es → clearOf es (r at default) ≡ true
       → (let f : RealField =
-      record { columns = at; form = Form.decimal (placesAt (g .line) at); value = realAt (g .line) at default; default = default } in
-      looked es f ≡ due (g .line) f)
+      record { columns = at; form = Form.decimal (placesAt (g .options .exponents) (g .line) at); value = realAt (g .options .exponents) (g .line) at default; default = default } in
+      looked es f ≡ due g f)
   unfolding realAt placesAt
   real-looks at default m e =
       let one = and-left (eqb (length (chosen (may at) es)) 1) (may at (r at default) && finite default) e in
@@ -152,7 +153,7 @@ module _ (g : Given) (es : List Entry) where
 
   factor-looks : (at : Columns) → List·Memᴰ (a at) es → clearOf es (a at) ≡ true
       → (let f : RealField = record { columns = at; form = Form.integer; value = factorAt (g .line) at; default = zeroReal } in
-      looked es f ≡ due (g .line) f)
+      looked es f ≡ due g f)
   unfolding factorAt
   factor-looks at m e =
       let small = leb (at .end - at .start) 7 in
@@ -162,7 +163,7 @@ module _ (g : Given) (es : List Entry) where
       rw (only, and-right (may at (a at)) small rest) refl
 
   entry-looks : (e : Entry) → List·Memᴰ e es → clearOf es e ≡ true → (f : RealField) (others : List RealField)
-      → (List·Memᴰ f others → looked es f ≡ due (g .line) f) → List·Memᴰ f (realBy g e others) → looked es f ≡ due (g .line) f
+      → (List·Memᴰ f others → looked es f ≡ due g f) → List·Memᴰ f (realBy g e others) → looked es f ≡ due g f
   entry-looks (u at) m h f others on k = on k
   entry-looks (i at) m h f others on k = on k
   entry-looks (r at default) m h f others on k = ⊎-elim (λ same. rw same (real-looks at default m h)) on (List·Memᴰ·cases-cons k)
@@ -182,12 +183,12 @@ module _ (g : Given) (es : List Entry) where
   entry-looks (triples start) m h f others on k = on k
 
   rest-looks : (rest : List Entry) → ((e : Entry) → List·Memᴰ e rest → List·Memᴰ e es) → allClear es rest ≡ true
-      → (f : RealField) → List·Memᴰ f (realsBy g rest) → looked es f ≡ due (g .line) f
+      → (f : RealField) → List·Memᴰ f (realsBy g rest) → looked es f ≡ due g f
   rest-looks [] within h f k = absurd (List·Memᴰ·not-nil k)
   rest-looks (e ∷ rest) within h f k =
       entry-looks e (within e (List·Memᴰ·head refl)) (and-left (clearOf es e) (allClear es rest) h) f (realsBy g rest)
       (rest-looks rest (λ y m. within y (List·Memᴰ·tail m)) (and-right (clearOf es e) (allClear es rest) h) f)
       k
 
-pub clear-looks : (g : Given) (es : List Entry) → clear es ≡ true → (f : RealField) → List·Memᴰ f (realsBy g es) → looked es f ≡ due (g .line) f
+pub clear-looks : (g : Given) (es : List Entry) → clear es ≡ true → (f : RealField) → List·Memᴰ f (realsBy g es) → looked es f ≡ due g f
 clear-looks g es h f k = rest-looks g es es (λ e m. m) h f k

@@ -10,5 +10,5 @@ use lib.Pow.{pow-add}
 pub ten-next : (n i : ℕ) → n ≡ 10 ^ i → n * 10 ≡ 10 ^ (i + 1)
 ten-next n i e = rw (e, pow-add 10 i 1) refl
 
-pub ten-few : (n i : ℕ) → n ≡ 10 ^ i → i ≤ 9 → n ≤ 1000000000
+pub ten-few : (n i : ℕ) → n ≡ 10 ^ i → i ≤ 11 → n ≤ 100000000000
 ten-few n i e h = rw e (pow-le-pow-right (zero-lt-suc 9) h)

@@ -51,7 +51,7 @@ unfolding inFloat
 integer-in (pos n) h = le→leb n (2 ^ prec binary64) h
 integer-in (negsuc n) h = lt→ltb n (2 ^ prec binary64) h
 
-unlike-false : (s : Bool) → unlike s false ≡ s
+pub unlike-false : (s : Bool) → unlike s false ≡ s
 unlike-false true = refl
 unlike-false false = refl
 

@@ -50,11 +50,11 @@ module _ (g : Given) (standIn asked : List ℕ) where
     atom-again position occupancy bfactor
         (serial, (name, (alternate, (residue, (chain, (number, (insertion, (x, (y, (z, (o, (b, (segment, (element, (charge, more))))))))))))))) =
         let e = label-back {v = v} serial name alternate residue chain number insertion segment element charge clean in
-        let x = real-in zeroReal x (omega arith) .0 in
-        let y = real-in zeroReal y (omega arith) .0 in
-        let z = real-in zeroReal z (omega arith) .0 in
-        let o = real-in oneReal o (omega arith) .0 in
-        let b = real-in zeroReal b (omega arith) .0 in
+        let x = real-in (g .options .exponents) zeroReal x (omega arith) .0 in
+        let y = real-in (g .options .exponents) zeroReal y (omega arith) .0 in
+        let z = real-in (g .options .exponents) zeroReal z (omega arith) .0 in
+        let o = real-in (g .options .exponents) oneReal o (omega arith) .0 in
+        let b = real-in (g .options .exponents) zeroReal b (omega arith) .0 in
         rw (
           x,
           y,
@@ -109,12 +109,12 @@ module _ (g : Given) (standIn asked : List ℕ) where
     unfolding cellsFrom blanks
     cryst1-again cell group z clean wide (s0, (s1, (s2, (s3, (s4, (s5, (s6, (last, more))))))))
         (a, (b, (c, (alpha, (beta, (gamma, (space, (number, none)))))))) =
-        let a = real-in zeroReal a (omega arith) .0 in
-        let b = real-in zeroReal b (omega arith) .0 in
-        let c = real-in zeroReal c (omega arith) .0 in
-        let alpha = real-in zeroReal alpha (omega arith) .0 in
-        let beta = real-in zeroReal beta (omega arith) .0 in
-        let gamma = real-in zeroReal gamma (omega arith) .0 in
+        let a = real-in (g .options .exponents) zeroReal a (omega arith) .0 in
+        let b = real-in (g .options .exponents) zeroReal b (omega arith) .0 in
+        let c = real-in (g .options .exponents) zeroReal c (omega arith) .0 in
+        let alpha = real-in (g .options .exponents) zeroReal alpha (omega arith) .0 in
+        let beta = real-in (g .options .exponents) zeroReal beta (omega arith) .0 in
+        let gamma = real-in (g .options .exponents) zeroReal gamma (omega arith) .0 in
         let has : ltb 66 (length (g .line)) ≡ true = lt-ltb 66 (length (g .line)) (omega arith) in
         let z = rest-in (g .line) 66 4 z 0 10 last (number .fits) (omega arith) .0 in
         rw (has, a, b, c, alpha, beta, gamma, within-in space (omega arith) clean standIn, z) refl
@@ -122,15 +122,15 @@ module _ (g : Given) (standIn asked : List ℕ) where
     -- ---- SCALE, ORIGX, MTRIX
     module _ (row : ℕ) (v : Transformation) where
       scale-again : AllHeld (g .line) (scaleSheet row v asked .cells) → Again (kinds.Scale row) g standIn name asked (scaleSheet row v asked)
-      scale-again (n, (a, (b, (c, (d, more))))) = let e = row-values {v = v} a b c d in rw (e .0, e .1, e .2, e .3) refl
+      scale-again (n, (a, (b, (c, (d, more))))) = let e = row-values {v = v} a b c d (g .options .exponents) in rw (e .0, e .1, e .2, e .3) refl
 
       origx-again : AllHeld (g .line) (origxSheet row v asked .cells) → Again (kinds.Origx row) g standIn name asked (origxSheet row v asked)
-      origx-again (n, (a, (b, (c, (d, more))))) = let e = row-values {v = v} a b c d in rw (e .0, e .1, e .2, e .3) refl
+      origx-again (n, (a, (b, (c, (d, more))))) = let e = row-values {v = v} a b c d (g .options .exponents) in rw (e .0, e .1, e .2, e .3) refl
 
       mtrix-again : (serial : ℕ) (isGiven : Bool) → AllHeld (g .line) (mtrixSheet row serial v isGiven asked .cells)
           → Again (kinds.Mtrix row) g standIn name asked (mtrixSheet row serial v isGiven asked)
       mtrix-again serial isGiven (n, (s, (a, (b, (c, (d, (f, more))))))) =
-          let e = row-values {v = v} a b c d in
+          let e = row-values {v = v} a b c d (g .options .exponents) in
           rw (unsigned-in s (omega arith) .0, e .0, e .1, e .2, e .3, given-in f refl) refl
 
     -- ---- MODEL

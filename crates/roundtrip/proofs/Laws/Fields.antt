@@ -6,6 +6,7 @@
 use mathlib.Core.Path.{_≡_, refl}
 use Prim.Native.Nat.{ℕ}
 use native.Mathlib.Omega.{arith}
+use mathlib.Core.Bool.{Bool}
 use mathlib.Core.List.{List, []}
 use Rattle.line.specs.Columns.{_⋯_}
 use Rattle.line.specs.Given.{Given}
@@ -80,23 +81,24 @@ label-back serial name alternate residue chain number insertion segment element 
 -- ---- a matrix's row
 module _ {l : List ℕ} {v : Transformation} {p q r s : ℕ} (a : Held l (10 ⋯ 20 holds real p (v .a))) (b : Held l (20 ⋯ 30 holds real q (v .b)))
     (c : Held l (30 ⋯ 40 holds real r (v .c))) (d : Held l (45 ⋯ 55 holds real s (v .d))) where
-  pub row-values : (realAt l (10 ⋯ 20) zeroReal ≡ doubleBack p (placesOf p (v .a))) × (realAt l (20 ⋯ 30) zeroReal ≡ doubleBack q (placesOf q (v .b)))
-      × (realAt l (30 ⋯ 40) zeroReal ≡ doubleBack r (placesOf r (v .c))) × (realAt l (45 ⋯ 55) zeroReal ≡ doubleBack s (placesOf s (v .d)))
-  row-values = (
-    real-in zeroReal a (omega arith) .0,
-    real-in zeroReal b (omega arith) .0,
-    real-in zeroReal c (omega arith) .0,
-    real-in zeroReal d (omega arith) .0,
+  pub row-values : (on : Bool) → (realAt on l (10 ⋯ 20) zeroReal ≡ doubleBack p (placesOf p (v .a)))
+      × (realAt on l (20 ⋯ 30) zeroReal ≡ doubleBack q (placesOf q (v .b))) × (realAt on l (30 ⋯ 40) zeroReal ≡ doubleBack r (placesOf r (v .c)))
+      × (realAt on l (45 ⋯ 55) zeroReal ≡ doubleBack s (placesOf s (v .d)))
+  row-values on = (
+    real-in on zeroReal a (omega arith) .0,
+    real-in on zeroReal b (omega arith) .0,
+    real-in on zeroReal c (omega arith) .0,
+    real-in on zeroReal d (omega arith) .0,
   )
 
   pub row-clear : (g : Given) → g .line ≡ l → tableFaults g transformationTable ≡ []
   row-clear g e =
       rw e
       (rw (
-        real-in zeroReal a (omega arith) .1,
-        real-in zeroReal b (omega arith) .1,
-        real-in zeroReal c (omega arith) .1,
-        real-in zeroReal d (omega arith) .1,
+        real-in (g .options .exponents) zeroReal a (omega arith) .1,
+        real-in (g .options .exponents) zeroReal b (omega arith) .1,
+        real-in (g .options .exponents) zeroReal c (omega arith) .1,
+        real-in (g .options .exponents) zeroReal d (omega arith) .1,
       ) refl)
 
 -- ---- a model's number

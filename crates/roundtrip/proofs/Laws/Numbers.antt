@@ -8,7 +8,7 @@ use mathlib.Core.Path.{_≡_, refl, ap, _∙_}
 use Prim.Native.Nat.{ℕ, _-_, _≤_}
 use native.Mathlib.Omega.{arith}
 use borrow.Author.Tests.{le-ltb, le-leb}
-use mathlib.Core.Bool.{true}
+use mathlib.Core.Bool.{Bool, true}
 use mathlib.Core.List.{List, [], _++_}
 use lib.ListN.{length, drop}
 use lib.IntN.{ℤ}
@@ -21,6 +21,8 @@ use Rattle.number.specs.Whole.{unsignedOf, signedOf, withSign}
 use Rattle.number.specs.declared.whole.Unsigned.the-variants.{U}
 use Rattle.number.specs.declared.whole.Signed.the-variants.{I}
 use Rattle.real.specs.Real.{realOf, tenThousandthsOf}
+use Rattle.real.specs.Wide.{realWith}
+use Rattle.real.proofs.Laws.WideReal.{on-is}
 use Rattle.real.specs.declared.Real.the-variants.{R}
 use Rattle.field.specs.Number.{unsignedAt, unsignedFaults, signedAt, signedFaults, realAt, realFaults, placesAt, factorAt, factorFaults, unsignedFrom, unsignedFromFaults, numberFaults}
 use Rattle.cell.specs.Cell.{fitting, texted, realFits, realBytes, factorFits, factorBytes}
@@ -77,12 +79,14 @@ module _ {l : List ℕ} {at : Columns} where
       let said : signedOf (partOf l at) ≡ I z = ap signedOf (h .part) ∙ signed-said (at .end - at .start) z (h .fits) few in
       (rw said refl, rw (le-ltb (length l) (at .end) (h .reach), said) refl)
 
-  pub real-in : {q : ℕ} {x : Float} (default : Float) → Held l (at holds real q x) → at .end - at .start ≤ 10
-      → (realAt l at default ≡ doubleBack q (placesOf q x)) × (realFaults l at ≡ []) × (placesAt l at ≡ q)
+  -- a written real is a plain decimal, so it is the same with exponents and without
+  pub real-in : (on : Bool) {q : ℕ} {x : Float} (default : Float) → Held l (at holds real q x) → at .end - at .start ≤ 10
+      → (realAt on l at default ≡ doubleBack q (placesOf q x)) × (realFaults on l at ≡ []) × (placesAt on l at ≡ q)
   unfolding realAt placesAt numberFaults
-  real-in {q} {x} default h few =
-      let said : realOf (partOf l at) ≡ R (doubleBack q (placesOf q x)) q =
+  real-in on {q} {x} default h few =
+      let plain : realOf (partOf l at) ≡ R (doubleBack q (placesOf q x)) q =
       ap realOf (h .part) ∙ real-said (at .end - at .start) q x (h .fits) few in
+      let said : realWith on (partOf l at) ≡ R (doubleBack q (placesOf q x)) q = on-is (partOf l at) plain on in
       (rw said refl, rw (le-ltb (length l) (at .end) (h .reach), said) refl, rw said refl)
 
   pub factor-in : {x : Float} → Held l (at holds factor x) → at .end - at .start ≤ 7

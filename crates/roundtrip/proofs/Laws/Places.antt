@@ -1,8 +1,8 @@
 -- A field that was read and is written with as many decimals as it was read with says the same sign, M and p.
---     written-as-read     for every kind that is written and each of its real fields that has no fault
+--     written-as-read     for every kind that is written and each of its real fields that is a plain decimal, with exponents taken or not
 --     never-rounded       a record is written only where the digits themselves fit; all others are refused
 -- Assumes nothing.
-use mathlib.Core.Path.{_≡_, refl, ap, _∙_}
+use mathlib.Core.Path.{_≡_, refl, sym, ap, _∙_}
 use Prim.Native.Nat.{ℕ, _-_, _≤_}
 use native.Mathlib.Omega.{arith}
 use mathlib.Core.Logic.{⊎-elim}
@@ -24,7 +24,10 @@ use Rattle.number.specs.declared.decimal.Decimal.{Decimal}
 use Rattle.number.specs.declared.decimal.Decimal.the-variants.{Plain, NotPlain}
 use Rattle.number.proofs.Laws.Width.{decimal-limits}
 use Rattle.real.specs.Double.{doubleOf}
-use Rattle.real.specs.Real.{realFrom, realOf}
+use Rattle.real.specs.Wide.{realWith}
+use Rattle.real.specs.declared.Real.the-variants.{R}
+use Rattle.real.proofs.Laws.Real.{real-is, real-not}
+use Rattle.real.proofs.Laws.WideReal.{off-is, on-is}
 use Rattle.field.specs.Number.{realAt, placesAt, realFaults, numberFaults, shortAt, wrongAt, orR, placesIn}
 use Rattle.field.specs.Table.{Entry}
 use Rattle.atom.specs.Atom.{basicsTable, atomTable}
@@ -58,34 +61,42 @@ faulted l at sort e = go (ltb (length l) (at .end)) e
     go true e = let z : _≡_ {A = ℕ} 0 1 = cc in omega arith
     go false e = let z : _≡_ {A = ℕ} 0 1 = cc in omega arith
 
+-- so a real that has no fault with the option off is a plain decimal
+plain-of : (l : List ℕ) (at : Columns) → realFaults false l at ≡ [] → (s : Bool) × (m : ℕ) × (p : ℕ) × (decimalOf (partOf l at) ≡ Plain s m p)
+plain-of l at none = go (decimalOf (partOf l at)) refl
+  where
+    go : (d : Decimal) → decimalOf (partOf l at) ≡ d → (s : Bool) × (m : ℕ) × (p : ℕ) × (decimalOf (partOf l at) ≡ Plain s m p)
+    go (Plain s m p) e = (s, m, p, e)
+    go NotPlain e = absurd (faulted l at RSort (rw (off-is (partOf l at), real-not (partOf l at) .0 e) at none))
+
 -- no number of more than ten bytes is read, hence the bound
-module _ (old new : List ℕ) (at : Columns) (default : Float) (h : Held new (at holds real (placesAt old at) (realAt old at default)))
-    (few : at .end - at .start ≤ 10) where
+module _ (on : Bool) (old new : List ℕ) (at : Columns) (default : Float)
+    (h : Held new (at holds real (placesAt on old at) (realAt on old at default))) (few : at .end - at .start ≤ 10) where
+  plain-is : (l : List ℕ) {s : Bool} {m p : ℕ} → decimalOf (partOf l at) ≡ Plain s m p → realWith on (partOf l at) ≡ R (doubleOf s m p) p
+  plain-is l e = on-is (partOf l at) (real-is (partOf l at) e) on
+
   own-said : (s : Bool) (m p : ℕ) → decimalOf (partOf old at) ≡ Plain s m p
       → (length (fixed p s m) ≤ at .end - at .start) × (decimalOf (partOf new at) ≡ Plain s m p)
-  unfolding realAt placesAt realOf
+  unfolding realAt placesAt
   own-said s m p e =
       let limits = decimal-limits (partOf old at) e in
       let w = at .end - at .start in
-      let fits : realFits w p (inPlaces p (doubleOf s m p)) ≡ true = rw e at (h .fits) in
-      let part : partOf new at ≡ realBytes w p (inPlaces p (doubleOf s m p)) = rw e at (h .part) in
+      let fits : realFits w p (inPlaces p (doubleOf s m p)) ≡ true = rw (plain-is old e) at (h .fits) in
+      let part : partOf new at ≡ realBytes w p (inPlaces p (doubleOf s m p)) = rw (plain-is old e) at (h .part) in
       let (short, said) = cell-own s m p w (limits .0) (limits .1) fits few in
       (short, ap decimalOf part ∙ said)
 
-  own-digits : (d : Decimal) → decimalOf (partOf old at) ≡ d → realFaults old at ≡ [] → decimalOf (partOf new at) ≡ d
-  unfolding realOf
-  own-digits (Plain s m p) e none = own-said s m p e .1
-  own-digits NotPlain e none = absurd (faulted old at RSort (rw e at none))
-
-  field-same : realFaults old at ≡ [] → SaysSame old new at default
-  unfolding realAt placesAt realOf
+  field-same : realFaults false old at ≡ [] → SaysSame on old new at default
+  unfolding realAt placesAt
   field-same none =
-      let same = own-digits (decimalOf (partOf old at)) refl none in
+      let (s, m, p, e) = plain-of old at none in
+      let said = own-said s m p e .1 in
+      let same = plain-is new said ∙ sym (plain-is old e) in
       record {
-        digits = same;
-        value = ap (λ (d : Decimal). orR default (realFrom d)) same;
-        places = ap (λ (d : Decimal). placesIn (realFrom d)) same;
-        clear = real-in default h few .1;
+        digits = said ∙ sym e;
+        value = ap (orR default) same;
+        places = ap placesIn same;
+        clear = real-in on default h few .1;
       }
 
 -- ---- the real fields of a table
@@ -132,7 +143,9 @@ module _ (P : Columns → Float → Type 0) where
 -- ---- each of them is written in its own columns, with its own count
 module _ (g : Given) (new : List ℕ) where
   abbrev Own : Columns → Float → Type 0
-  Own at default = Held new (at holds real (placesAt (g .line) at) (realAt (g .line) at default)) × (at .end - at .start ≤ 10)
+  Own at default =
+      Held new (at holds real (placesAt (g .options .exponents) (g .line) at) (realAt (g .options .exponents) (g .line) at default))
+      × (at .end - at .start ≤ 10)
 
   -- a line of another kind never fits
   other-fits : AllHeld new (otherKind .cells) → ⊥
@@ -188,8 +201,9 @@ module _ (k : Kind) (g : Given) (standIn name : List ℕ) (fit : Fit (asRead k g
       let held = lined-held (line-lined (asRead k g standIn name) ascends fit) in
       among (Own g line) (fieldsBy k g) (Entry.r at default) (all-own g line standIn name k held) m
 
-  pub written-as-read : realFaults (g .line) at ≡ [] → SaysSame (g .line) line at default
-  written-as-read none = field-same (g .line) line at default (own .0) (own .1) none
+  -- a field that has no fault with the option off has no exponent
+  pub written-as-read : realFaults false (g .line) at ≡ [] → SaysSame (g .options .exponents) (g .line) line at default
+  written-as-read none = field-same (g .options .exponents) (g .line) line at default (own .0) (own .1) none
 
   pub never-rounded : (s : Bool) (m p : ℕ) → decimalOf (partOf (g .line) at) ≡ Plain s m p → length (fixed p s m) ≤ at .end - at .start
-  never-rounded s m p e = own-said (g .line) line at default (own .0) (own .1) s m p e .0
+  never-rounded s m p e = own-said (g .options .exponents) (g .line) line at default (own .0) (own .1) s m p e .0

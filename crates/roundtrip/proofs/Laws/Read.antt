@@ -55,11 +55,11 @@ module _ (g : Given) (v : Label) (clean : CleanLabel v) where
       (serial, (name, (alternate, (residue, (chain, (number, (insertion, (x, (y, (z, (o, (b, (segment, (element, (charge, more))))))))))))))) =
       let e = label-back {v = v} serial name alternate residue chain number insertion segment element charge clean in
       let none : tableFaults g basicsTable ≡ [] = e .clear g refl in
-      let x = real-in zeroReal x (omega arith) in
-      let y = real-in zeroReal y (omega arith) in
-      let z = real-in zeroReal z (omega arith) in
-      let o = real-in oneReal o (omega arith) in
-      let b = real-in zeroReal b (omega arith) in (
+      let x = real-in (g .options .exponents) zeroReal x (omega arith) in
+      let y = real-in (g .options .exponents) zeroReal y (omega arith) in
+      let z = real-in (g .options .exponents) zeroReal z (omega arith) in
+      let o = real-in (g .options .exponents) oneReal o (omega arith) in
+      let b = real-in (g .options .exponents) zeroReal b (omega arith) in (
         rw (x .1, y .1, z .1, o .1, b .1, none) refl,
         rw (
           x .0,
@@ -120,12 +120,12 @@ cryst1-comes : (g : Given) (cell : CrystalCell) (group : List ℕ) (z : ℕ) (as
 unfolding faultsOf cellsFrom blanks
 cryst1-comes g cell group z asked clean wide (s0, (s1, (s2, (s3, (s4, (s5, (s6, (last, more))))))))
     (a, (b, (c, (alpha, (beta, (gamma, (space, (number, none)))))))) =
-    let a = real-in zeroReal a (omega arith) in
-    let b = real-in zeroReal b (omega arith) in
-    let c = real-in zeroReal c (omega arith) in
-    let alpha = real-in zeroReal alpha (omega arith) in
-    let beta = real-in zeroReal beta (omega arith) in
-    let gamma = real-in zeroReal gamma (omega arith) in
+    let a = real-in (g .options .exponents) zeroReal a (omega arith) in
+    let b = real-in (g .options .exponents) zeroReal b (omega arith) in
+    let c = real-in (g .options .exponents) zeroReal c (omega arith) in
+    let alpha = real-in (g .options .exponents) zeroReal alpha (omega arith) in
+    let beta = real-in (g .options .exponents) zeroReal beta (omega arith) in
+    let gamma = real-in (g .options .exponents) zeroReal gamma (omega arith) in
     let has : ltb 66 (length (g .line)) ≡ true = lt-ltb 66 (length (g .line)) (omega arith) in
     let z = rest-in (g .line) 66 4 z 0 10 last (number .fits) (omega arith) in (
       rw (has, a .1, b .1, c .1, alpha .1, beta .1, gamma .1, z .1) refl,
@@ -137,19 +137,19 @@ module _ (g : Given) (row : ℕ) (v : Transformation) (asked : List ℕ) where
   scale-comes : AllHeld (g .line) (scaleSheet row v asked .cells) → Comes (kinds.Scale row) g (scaleSheet row v asked .cells)
   unfolding faultsOf
   scale-comes (n, (a, (b, (c, (d, more))))) =
-      let e = row-values {v = v} a b c d in (row-clear {v = v} a b c d g refl, rw (e .0, e .1, e .2, e .3) refl)
+      let e = row-values {v = v} a b c d (g .options .exponents) in (row-clear {v = v} a b c d g refl, rw (e .0, e .1, e .2, e .3) refl)
 
   origx-comes : AllHeld (g .line) (origxSheet row v asked .cells) → Comes (kinds.Origx row) g (origxSheet row v asked .cells)
   unfolding faultsOf
   origx-comes (n, (a, (b, (c, (d, more))))) =
-      let e = row-values {v = v} a b c d in (row-clear {v = v} a b c d g refl, rw (e .0, e .1, e .2, e .3) refl)
+      let e = row-values {v = v} a b c d (g .options .exponents) in (row-clear {v = v} a b c d g refl, rw (e .0, e .1, e .2, e .3) refl)
 
   mtrix-comes : (serial : ℕ) (isGiven : Bool) → AllHeld (g .line) (mtrixSheet row serial v isGiven asked .cells)
       → Comes (kinds.Mtrix row) g (mtrixSheet row serial v isGiven asked .cells)
   unfolding faultsOf
   mtrix-comes serial isGiven (n, (s, (a, (b, (c, (d, (f, more))))))) =
       let u = unsigned-in s (omega arith) in
-      let e = row-values {v = v} a b c d in
+      let e = row-values {v = v} a b c d (g .options .exponents) in
       let none : tableFaults g transformationTable ≡ [] = row-clear {v = v} a b c d g refl in
       (rw (u .1, none) refl, rw (u .0, e .0, e .1, e .2, e .3, given-in f refl) refl)
 

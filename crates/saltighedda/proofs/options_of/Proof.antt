@@ -1,4 +1,4 @@
--- `saltighedda::options_of` meets its contract: its tests are those of the first two bits, and the third gives the mode.
+-- `saltighedda::options_of` meets its contract: its tests are those of the bits, and the third gives the mode.
 -- Assumes nothing.
 use mathlib.Core.Path.{refl}
 use borrow.Author.Needs.{needs}

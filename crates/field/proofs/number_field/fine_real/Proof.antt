@@ -1,10 +1,13 @@
--- `field::number_field::fine_real` meets its contract: the tests are those of `numberFaults`.
+-- `field::number_field::fine_real` meets its contract: a line that doesn't reach says nothing there, and any other what its text says.
 -- Assumes nothing.
-use mathlib.Core.Path.{refl, sym, ap, _∙_}
+use mathlib.Core.Path.{sym, ap, _∙_}
+use mathlib.Core.Bool.{false}
 use denote.Ref.{now}
-use Rattle.field.specs.Number.{numberFaults, realAt, placesAt}
 use Rattle.field.proofs.Laws.Fields.{part-short, real-none}
+use Rattle.field.proofs.Laws.Fine.{fine-is}
 use Rattle.real.specs.Real.{realOf}
+use Rattle.real.specs.Wide.{realWith}
+use Rattle.real.proofs.Laws.WideReal.{off-is}
 use borrow.Author.Needs.{needs}
 use Rattle.field.proofs.number_field.fine_real.Statement.{statement}
 use Rattle.field.proofs.number_field.fine_real.Tie as tie
@@ -13,12 +16,10 @@ ends-before-requires : tie.Need-ends-before-requires
 ends-before-requires c κs = search needs
 
 returns : tie.Need-returns
-unfolding realAt placesAt numberFaults
 returns c =
-    let l = c .before .before .before .args .line .now in
-    let at = c .before .before .before .args .at in
+    let a = c .before .before .before .args in
     let e = sym (c .before .ends-before .ensures) ∙ c .if1 .taken in
-    rw (part-short l at e, real-none, e) refl
+    fine-is false (a .line .now) (a .at) (a .default) (ap (realWith false) (part-short (a .line .now) (a .at) e) ∙ real-none false)
 
 part-requires : tie.Need-part-requires
 part-requires c κs = search needs
@@ -33,18 +34,14 @@ enum-told : tie.Need-enum-told
 enum-told c = search needs
 
 returns-2 : tie.Need-returns-2
-unfolding realAt placesAt numberFaults
 returns-2 c =
-    let e = sym (c .before .before .before .before .before .before .ends-before .ensures) ∙ c .before .before .before .before .before .if1 .left in
     let said = sym (c .before .before .before .read-real .ensures ∙ ap realOf (c .before .before .before .before .part .ensures)) ∙ c .before .value .given .1 in
-    rw (said, e) refl
+    fine-is false _ _ _ (off-is _ ∙ said)
 
 returns-3 : tie.Need-returns-3
-unfolding realAt placesAt numberFaults
 returns-3 c =
-    let e = sym (c .before .before .before .before .before .ends-before .ensures) ∙ c .before .before .before .before .if1 .left in
     let said = sym (c .before .before .read-real .ensures ∙ ap realOf (c .before .before .before .part .ensures)) ∙ c .enum-told .given .1 in
-    rw (said, e) refl
+    fine-is false _ _ _ (off-is _ ∙ said)
 
 pub fine-real-spec : {M : Type 1} → statement M
 fine-real-spec =

@@ -5,8 +5,8 @@ use denote.Ref.{now}
 use Rattle.crystal.specs.Crystal.{crystalTable, hasZ}
 use Rattle.seqadv.specs.Seqadv.{seqadvTable, hasTarget}
 use Rattle.ssbond.specs.Ssbond.{ssbondTable, hasTail}
-use Rattle.line.specs.Given.{Given}
-use Rattle.lexitem.proofs.Laws.Read.{noted-alone, model-noted}
+use Rattle.line.specs.Given.{Given, alone, taking}
+use Rattle.lexitem.proofs.Laws.Read.{noted-part, model-noted}
 use borrow.Author.Needs.{needs}
 use Rattle.lexitem.proofs.read.lex_as.Statement.{statement}
 use Rattle.lexitem.proofs.read.lex_as.Tie as tie
@@ -219,7 +219,7 @@ returns-7 : tie.Need-returns-7
 returns-7 c =
     let a = c .before .before .before .before .before .before .args in
     let g : Given = record { line = a .line .now; options = a .options; remarks = a .remarks .now } in
-    rw (c .before .before .enum-told7 .given .1, c .crystal .ensures, c .before .lex-cryst .ensures, noted-alone crystalTable g refl refl (hasZ (g .line))) refl
+    rw (c .before .before .enum-told7 .given .1, c .crystal .ensures, c .before .lex-cryst .ensures, noted-part crystalTable (taking (g .options .exponents) (g .line)) g refl refl (hasZ (g .line))) refl
 
 returns-8 : tie.Need-returns-8
 returns-8 c = rw (c .before .before .before .kind .given .1, c .scale .ensures, c .before .lex-scale .ensures) refl
@@ -255,7 +255,7 @@ returns-17 : tie.Need-returns-17
 returns-17 c =
     let a = c .before .before .before .before .before .before .args in
     let g : Given = record { line = a .line .now; options = a .options; remarks = a .remarks .now } in
-    rw (c .before .before .enum-told14 .given .1, c .seqadv .ensures, c .before .lex-seqadv .ensures, noted-alone seqadvTable g refl refl (hasTarget (g .line))) refl
+    rw (c .before .before .enum-told14 .given .1, c .seqadv .ensures, c .before .lex-seqadv .ensures, noted-part seqadvTable (alone (g .line)) g refl refl (hasTarget (g .line))) refl
 
 returns-18 : tie.Need-returns-18
 returns-18 c = rw (c .before .before .enum-told15 .given .1, c .modres .ensures, c .before .lex-modres .ensures) refl
@@ -264,7 +264,7 @@ returns-19 : tie.Need-returns-19
 returns-19 c =
     let a = c .before .before .before .before .before .before .args in
     let g : Given = record { line = a .line .now; options = a .options; remarks = a .remarks .now } in
-    rw (c .before .before .enum-told16 .given .1, c .ssbond .ensures, c .before .lex-ssbond .ensures, noted-alone ssbondTable g refl refl (hasTail (g .line))) refl
+    rw (c .before .before .enum-told16 .given .1, c .ssbond .ensures, c .before .lex-ssbond .ensures, noted-part ssbondTable (taking (g .options .exponents) (g .line)) g refl refl (hasTail (g .line))) refl
 
 returns-20 : tie.Need-returns-20
 returns-20 c = rw (c .before .enum-told17 .given .1) (c .bare2 .ensures)
