@@ -7,7 +7,7 @@ set -eu
 cd "$(dirname "${BASH_SOURCE[0]}")/.."
 
 # What reads or writes the outside world: no contract can say what is there.
-excepted="stream::list_input stream::list_from"
+excepted="stream::list_input stream::list_from stream::input::read_some"
 
 # The public functions of a file, one a line: the name, a tab, and all of the head up to the body.
 heads() {
@@ -55,7 +55,7 @@ form() {
             is_given "$right" || { echo "has an equation that needn't fix its draft"; return 1; }
             echo page
             ;;
-        'into.ListedInto '* | 'specs.WrittenInto '* | 'specs.Told '* | 'specs.Fills '* | 'specs.Feeds '* | 'specs.Puts '* | 'specs.Ends '* | 'sheets.Writes '* | 'specs.Packs '* | 'specs.Collects '* | 'specs.Applies '* | 'specs.Counts '* | 'specs.Finds '*) echo named ;;
+        'into.ListedInto '* | 'specs.WrittenInto '* | 'specs.Told '* | 'specs.Fills '* | 'specs.Feeds '* | 'specs.Puts '* | 'specs.Ends '* | 'sheets.Writes '* | 'specs.Packs '* | 'specs.Collects '* | 'specs.Applies '* | 'specs.Counts '* | 'specs.Finds '* | 'specs.Absorbs '* | 'specs.Watches '*) echo named ;;
         '(r .file ≡ '*' × (r .at ≡ '*) echo fields ;;
         *) echo "has no contract of a known form"; return 1 ;;
     esac

@@ -3,13 +3,12 @@
 use Prim.Native.Nat.{ℕ, _+_}
 use mathlib.Core.Bool.{cond}
 use mathlib.Core.List.{List, [], _∷_}
-use lib.ListN.{length, drop}
+use lib.ListN.{length}
+use Rattle.carry.specs.Pieces.{Stretch, stretchesOf}
 use Rattle.lexitem.specs.Answer.{refusal}
 use Rattle.tally.specs.Names.{isMaster}
 use Rattle.tally.specs.Tally.{countOver}
-use Rattle.walker.specs.Lines.{linesOf, lineTaken, stepAt}
-use Rattle.walker.specs.declared.lines.Step.{Step}
-use Rattle.walker.specs.declared.lines.Step.the-variants.{End}
+use Rattle.walker.specs.Lines.{linesOf}
 use Rattle.audit.specs.Said.{saidOf}
 use Rattle.audit.specs.declared.Checked.{Checked}
 use Rattle.audit.specs.declared.Checked.the-variants.{Compared, Refused}
@@ -24,18 +23,18 @@ pub record Placed : Type 0 where
 abbrev pub placedAt : ℕ → List ℕ → Placed
 placedAt start text = record { start = start; text = text }
 
--- the lines of a file f that stand from an offset on, each with the offset that it starts at: behind what the one before takes up
-abbrev pub placed : List ℕ → List (List ℕ) → ℕ → List Placed
-placed f [] at = []
-placed f (l ∷ ls) at = placedAt at l ∷ placed f ls (at + lineTaken (drop at f))
+-- lines from an offset on, each with the offset that it starts at: behind what the one before takes up
+abbrev pub placed : ℕ → List Stretch → List Placed
+placed at [] = []
+placed at (s ∷ ss) = placedAt at (s .text) ∷ placed (at + s .taken) ss
 
 -- those of them that are MASTER lines
 abbrev pub masters : List Placed → List Placed
 masters [] = []
 masters (p ∷ ps) = cond (isMaster (p .text)) (p ∷ masters ps) (masters ps)
 
-unfoldable pub mastersFrom : List ℕ → ℕ → List Placed
-mastersFrom f at = masters (placed f (linesOf (drop at f)) at)
+unfoldable pub mastersOf : List ℕ → List Placed
+mastersOf f = masters (placed 0 (stretchesOf f))
 
 -- ---- what is answered
 abbrev pub refused : ℕ → ℕ → ℕ → Checked
@@ -56,10 +55,4 @@ judged ls (p ∷ []) = held ls p
 judged ls (p ∷ q ∷ ps) = refused 11 (q .start) (length (q .text))
 
 unfoldable pub checked : List ℕ → Checked
-checked f = judged (linesOf f) (mastersFrom f 0)
-
--- ---- the word of a helper
--- the step to the first of some lines, or the end
-abbrev pub stepTo : List ℕ → List Placed → Step
-stepTo f [] = End
-stepTo f (p ∷ ps) = stepAt f (p .start)
+checked f = judged (linesOf f) (mastersOf f)

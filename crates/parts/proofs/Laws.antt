@@ -1,7 +1,4 @@
 -- Laws that the functions' proofs cite, and what follows from the contracts.
-pub mod Pieces
-pub mod Whole
-pub mod Keep
 pub mod Held
 pub mod Put
 pub mod Turn

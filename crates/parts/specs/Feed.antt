@@ -2,34 +2,20 @@
 -- the last LF is held.
 use Prim.Native.Nat.{ℕ, suc, _+_, _≤_}
 use mathlib.Core.Path.{_≡_}
-use mathlib.Core.Bool.{Bool, cond, _&&_}
+use mathlib.Core.Bool.{cond, _&&_}
 use mathlib.Core.List.{List, [], _∷_, _++_}
-use lib.ListN.{length, take, drop}
+use lib.ListN.{length, drop}
 use lib.Dec.{eqb, ltb}
 use Rattle.listing.specs.Listing.{longest}
-use Rattle.parts.specs.Held.{State, begun, absorbed, endedText, lastText}
+use Rattle.carry.specs.Held.{State, begun, absorbed}
+use Rattle.carry.specs.Whole.{ends, behindLf, wholeLength, wholeOf, linesIn}
+use Rattle.parts.specs.Held.{endedText, lastText}
 use Rattle.parts.specs.declared.Fed.{Fed}
 use Rattle.report.specs.Fill.{Filling, filling, reportsFrom}
-use Rattle.walker.specs.Lines.{beforeLf, linesOf, numberBehind}
-
--- whether there is an LF among bytes
-abbrev pub ends : List ℕ → Bool
-ends t = ltb (beforeLf t) (length t)
-
--- what stands behind the first LF
-abbrev pub behindLf : List ℕ → List ℕ
-behindLf t = drop (suc (beforeLf t)) t
-
--- how many bytes there are up to the last LF, and with it
-unfoldable pub wholeLength : List ℕ → ℕ
-wholeLength [] = 0
-wholeLength (b ∷ t) = cond (ltb 0 (wholeLength t)) (suc (wholeLength t)) (cond (eqb b 10) 1 0)
+use Rattle.walker.specs.Lines.{beforeLf, numberBehind}
 
 -- ---- a part
--- with nothing held: the lines that stand whole in it, and what is held then
-abbrev pub linesIn : List ℕ → List (List ℕ)
-linesIn t = linesOf (take (wholeLength t) t)
-
+-- with nothing held: the reports of the lines that stand whole in it, and what is held then
 abbrev pub freeText : ℕ → List ℕ → List ℕ
 freeText number t = reportsFrom number (linesIn t)
 
@@ -82,7 +68,7 @@ whole f s = record { text = f .text; state = begun (f .number) (s .kept); taken 
 unfoldable pub turn : ℕ → State → List ℕ → Turn
 turn room s t =
     cond (ltb room longest) (record { text = []; state = s; taken = 0 })
-    (cond (eqb (s .held .total) 0 && ends t) (whole (filling room (take (wholeLength t) t) 0 (s .held .number)) s) (closed s t))
+    (cond (eqb (s .held .total) 0 && ends t) (whole (filling room (wholeOf t) 0 (s .held .number)) s) (closed s t))
 
 -- a turn from an offset on: the answer, and every lent byte
 pub record Feeds (x : Turn) (at : ℕ) (before after kept : List ℕ) (r : Fed) : Type 0 where
@@ -119,4 +105,4 @@ pub record Behind (part : List ℕ) (at behind : ℕ) : Type 0 where
 abbrev pub FeedsWhole : List ℕ → ℕ → ℕ → List ℕ → List ℕ → Fed → Type 0
 FeedsWhole part at number before after r =
     (kept : List ℕ) →
-    Feeds (whole (filling (length before) (take (wholeLength (drop at part)) (drop at part)) 0 number) (begun number kept)) at before after kept r
+    Feeds (whole (filling (length before) (wholeOf (drop at part)) 0 number) (begun number kept)) at before after kept r

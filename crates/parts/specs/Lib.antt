@@ -1,4 +1,3 @@
--- The words that the contracts of this crate cite: the pieces of an input that comes in parts, what is held of one, and what feeding a part puts.
-pub mod Pieces
+-- The words that the contracts of this crate cite: what is put for a line that was held, and what feeding a part puts.
 pub mod Held
 pub mod Feed

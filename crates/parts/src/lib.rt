@@ -1,19 +1,17 @@
 // Input in parts, as it comes: the reports of the lines that a part finishes, and what is held over of an unfinished one. Whoever feeds the parts
 // in order and then finishes has had the report of each line of the whole input once, whatever the cuts.
-ghost use mathlib.Core.Path.{_≡_};
-ghost use Prim.Native.Nat.{_+_, _≤_};
+ghost use Prim.Native.Nat.{_≤_};
 ghost use lib.ListN.{length, drop};
 ghost use Rattle.listing.specs.Listing.{longest};
 ghost use Rattle.parts.specs.Feed as specs;
-use crate::held::Held;
-use crate::keep::absorb;
 use crate::put::put_held;
+use carry::behind_last;
+use carry::held::Held;
+use carry::keep::absorb;
 use report::fill::LONGEST;
 use report::fill::put_reports;
 use walker::following;
 
-pub mod held;
-mod keep;
 mod put;
 
 // What is held, the offset of the first byte of the part that wasn't taken, and how many bytes were put.
@@ -21,20 +19,6 @@ pub struct Fed {
     pub held: Held,
     pub at: usize,
     pub n: usize,
-}
-
-// The offset behind the last LF of a part from an offset on, or that offset if there is none.
-fn behind_last(part: &[u8], at: usize) -> usize
-    ensures { λ r. ⌜ r ≡ at + specs.wholeLength (drop at (now (part .entry))) ⌝ }
-{
-    let mut i = part.len();
-    while at < i {
-        if part[i - 1] == 10 {
-            return i;
-        }
-        i -= 1;
-    }
-    at
 }
 
 // The reports of lines that stand whole in a part, from an offset up to the one behind its last LF.

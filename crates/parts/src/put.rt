@@ -5,7 +5,7 @@ ghost use Rattle.listing.specs.Listing.{longest};
 ghost use Rattle.parts.specs.Feed.{Puts};
 ghost use Rattle.parts.specs.Held as specs;
 ghost use Rattle.report.specs.Report.{report};
-use crate::keep::MOST_KEPT;
+use carry::keep::MOST_KEPT;
 use lexer::excess;
 use lexitem::answer::Refusal;
 use report::fill::LONGEST;

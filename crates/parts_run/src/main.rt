@@ -3,10 +3,10 @@
 // cutting there were, and for how many of them something else was put. The file `stdout` was worked out apart from this program.
 ghost use Prim.Native.Nat.{_≤_};
 ghost use lib.ListN.{length};
+use carry::held::Held;
 use libc::STDOUT_FILENO;
 use parts::feed;
 use parts::finish;
-use parts::held::Held;
 
 // What is held behind a part, and how many bytes are put.
 pub struct Put {

@@ -1,2 +1,2 @@
--- The words that the contracts of this crate cite: what a read answers.
-pub mod Got
+-- The words that the contracts of this crate cite: what is known at the end of the input, and what is printed then.
+pub mod Came

@@ -6,7 +6,7 @@ use mathlib.Core.Path.{_≡_}
 use mathlib.Core.List.{List}
 use lib.ListN.{length, take, drop, replicate}
 use Rattle.parts.specs.Feed.{partText, partState, partsState}
-use Rattle.parts.specs.Held.{State, begun}
+use Rattle.carry.specs.Held.{State, begun}
 use Rattle.stream.specs.declared.output.Printed.{Printed}
 use Rattle.stream.specs.declared.output.Printed.the-variants.{Upto, Failed}
 use Rattle.stream.specs.declared.output.Went.{Went}

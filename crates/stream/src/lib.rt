@@ -5,10 +5,10 @@ use crate::input::read_some;
 use crate::output::Went;
 use crate::output::print_last;
 use crate::output::print_part;
+use carry::held::Held;
 use libc::STDIN_FILENO;
-use parts::held::Held;
 
-mod input;
+pub mod input;
 mod output;
 
 // More reads than any run makes: a proved loop has to end, and the numbers of the lines have to be told apart.

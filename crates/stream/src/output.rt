@@ -5,10 +5,10 @@ ghost use lib.ListN.{length};
 ghost use Rattle.parts.specs.Feed.{partText};
 ghost use Rattle.parts.specs.Held.{lastText};
 ghost use Rattle.stream.specs.Printed as specs;
+use carry::held::Held;
 use libc::STDOUT_FILENO;
 use parts::feed;
 use parts::finish;
-use parts::held::Held;
 
 // Writes a text, or says why it can't.
 fn hand_over(text: &[u8]) -> bool {

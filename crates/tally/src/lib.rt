@@ -1,16 +1,12 @@
 // A running tally of a file's lines by name: what MASTER says of them, counted. A line's name is looked up in `names`, and in `compare` the counts
 // are held against a MASTER.
 ghost use mathlib.Core.Path.{_≡_};
-ghost use Rattle.walker.specs.Lines.{linesOf};
 ghost use Rattle.tally.specs.Tally as specs;
 
 pub mod compare;
 pub mod names;
 
 use crate::names::number_of;
-use walker::lines::Step;
-use walker::lines::line;
-use walker::step;
 
 // How many lines came of each sort that MASTER counts, by the names of its numbers. A count stops at 2^64-1, and no file has so many lines.
 pub struct Tally {
@@ -88,19 +84,4 @@ pub fn count_line(tally: &mut Tally, line: &[u8])
     ensures { λ r. ⌜ now (tally .exit) ≡ specs.counted (now (tally .entry)) (now (line .entry)) ⌝ }
 {
     *tally = counted(*tally, line);
-}
-
-// The tally with every line of a file more, by value.
-pub fn counted_file(tally: Tally, file: &[u8]) -> Tally
-    ensures { λ r. ⌜ r ≡ specs.tallied tally (linesOf (now (file .entry))) ⌝ }
-{
-    let mut t = tally;
-    let mut at = 0;
-    loop {
-        let Step::At { start, end, next } = step(file, at) else {
-            return t;
-        };
-        t = counted(t, line(file, start, end));
-        at = next;
-    }
 }

@@ -1,10 +1,10 @@
 -- "A program for people: standard input, one row for each number (name, counted, said, same or not) and a last row that says in words whether lines are
--- missing; refusals as rows." An input of more than 65,536 bytes has the one row that `pdblist` prints for such. Every row ends with LF.
+-- missing; refusals as rows." Every row ends with LF.
 use Prim.Native.Nat.{ℕ}
 use mathlib.Core.Bool.{Bool, false, cond, _||_}
 use mathlib.Core.List.{List, [], _∷_, _++_}
 use lib.Dec.{eqb, ltb}
-use lib.ListN.{length, take, drop}
+use lib.ListN.{take, drop}
 use Rattle.audit.specs.Audit.{checked}
 use Rattle.audit.specs.declared.Checked.{Checked}
 use Rattle.audit.specs.declared.Checked.the-variants as checked
@@ -80,9 +80,5 @@ abbrev pub verdictOf : Checked → List ℕ
 verdictOf (checked.Compared c) = comparedRows c
 verdictOf (checked.Refused r) = refusedRows r
 
--- the longest file that is checked
-abbrev pub most : ℕ
-most = 65536
-
-unfoldable pub verdict : List ℕ → List ℕ
-verdict f = cond (ltb most (length f)) (bytes "the file has over 65,536 bytes, and was not checked\n") (verdictOf (checked f))
+abbrev pub verdict : List ℕ → List ℕ
+verdict f = verdictOf (checked f)

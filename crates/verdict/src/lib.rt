@@ -5,7 +5,6 @@ ghost use Rattle.page.specs.Page.{page, put};
 ghost use Rattle.verdict.specs.Verdict as specs;
 use audit::Checked;
 use audit::Compared;
-use audit::check_master;
 use layout::put_three;
 use lexitem::answer::Refusal;
 use master::record::Master;
@@ -15,9 +14,6 @@ use tally::Tally;
 use tally::compare::counts_of;
 use tally::compare::differing;
 use tally::compare::said_by;
-
-// The longest file that is checked.
-const MOST: usize = 65536;
 
 fn put_same(out: &mut [u8], at: usize, counted: u64, said: u64) -> usize
     ensures { λ r. ⌜ page (now (out .exit)) r ≡ put (page (now (out .entry)) at) (specs.sameOrNot counted said) ⌝ }
@@ -147,18 +143,11 @@ fn put_refused(out: &mut [u8], at: usize, refusal: Refusal) -> usize
     put_why(out, why, refusal.number)
 }
 
-// What is printed for a file, at the front of lent bytes; 4,096 hold it.
-pub fn put_verdict(file: &[u8], out: &mut [u8]) -> usize
-    ensures { λ r. ⌜ page (now (out .exit)) r ≡ put (page (now (out .entry)) 0) (specs.verdict (now (file .entry))) ⌝ }
+// What is printed for a file, by what the checker answers of it, at the front of lent bytes; 4,096 hold it.
+pub fn put_verdict(checked: Checked, out: &mut [u8]) -> usize
+    ensures { λ r. ⌜ page (now (out .exit)) r ≡ put (page (now (out .entry)) 0) (specs.verdictOf checked) ⌝ }
 {
-    if MOST < file.len() {
-        return put_bytes(
-            out,
-            0,
-            b"the file has over 65,536 bytes, and was not checked\n",
-        );
-    }
-    match check_master(file) {
+    match checked {
         Checked::Compared(compared) => put_compared(out, 0, compared),
         Checked::Refused(refusal) => put_refused(out, 0, refusal),
     }

@@ -1,127 +1,115 @@
--- The MASTER lines of a file, found one after the other.
---     masters-end, masters-next          from an offset on: none at the end; else by the line that stands there
---     turn-end, turn-found, turn-on,     a turn of the loop that looks for the first one
---     turn-moves
---     none-left                          no step to one: there is none
---     First, first-master                a step to the first one tells the line, and those behind it
+-- The laws over the code's steps.
+--     turn-end, turn-next, turn-moves           a turn of the loop over a file's lines
+--     first-long, first-unread, first-numbers   the first MASTER line, by its length and by what it says
+--     rest-watches                              the rest of a part before which nothing is held
+--     part-free, part-held, part-ended          a part: nothing is held, no LF ends the line that is, or one does
+--     last-empty, last-some                     the end of the input
+--     watches-one                               the contract of `watch_part` leaves nothing free
 -- Assumes nothing.
 use Prim.Native.Nat.{ℕ, suc, _+_, _-_, _≤_, _<_}
 use mathlib.Core.Path.{_≡_, refl, sym, ap, _∙_}
-use mathlib.Core.Logic.{_⊎_, inl, inr}
-use mathlib.Core.Bool.{Bool, true, false, cond}
-use mathlib.Core.List.{List, [], _∷_}
+use mathlib.Core.List.{List}
+use native.Mathlib.Nat.{add-sub-cancel-left}
 use native.Mathlib.Omega.{arith}
-use borrow.Author.Tests.{ltb-true, ltb-false}
-use lib.Dec.{ltb}
-use lib.ListN.{length, drop}
-use Rattle.tally.specs.Names.{isMaster}
-use Rattle.walker.specs.Lines.{lineLength, lineTaken, stepAt, partOf}
+use borrow.Author.Tests.{lt-ltb, le-ltb, eq-eqb, ne-eqb}
+use lib.ListN.{length, take, drop}
+use lib.Seq.{drop-drop}
+use Rattle.carry.specs.Held.{State, none, begun, absorbed, Absorbs, endedSize}
+use Rattle.carry.specs.Pieces.{stretchesOf}
+use Rattle.carry.specs.Whole.{wholeLength, wholeOf}
+use Rattle.carry.specs.declared.held.Held.{Held}
+use Rattle.carry.specs.declared.keep.Absorbed.{Absorbed}
+use Rattle.carry.proofs.Laws.Step.{stretch-end, stretch-next}
+use Rattle.master.specs.declared.record.Master.{Master}
+use Rattle.walker.specs.Lines.{beforeLf, stepAt, partOf, numberBehind}
 use Rattle.walker.specs.declared.lines.Step.the-variants.{At, End}
-use Rattle.walker.proofs.Laws.Lines.{step-in, step-end, step-served, end-lines}
-use Rattle.audit.specs.Audit.{placedAt, mastersFrom, stepTo}
+use Rattle.walker.proofs.Laws.Lines.{step-served}
+use Rattle.audit.specs.Cuts.{seenHeld, lastWatch, Progress, freely, behindPart, Watches}
+use Rattle.audit.specs.Said.{saidOf}
+use Rattle.audit.specs.Watch.{firstMaster, seen, watched}
+use Rattle.audit.specs.declared.Said.{Said}
+use Rattle.audit.specs.declared.Said.the-variants as said
+use Rattle.audit.specs.declared.feed.Watched.{Watched}
+use Rattle.audit.specs.declared.watch.Masters.the-variants.{Unread, Numbers}
+use Rattle.audit.specs.declared.watch.Watch.{Watch}
 
-pub masters-end : (f : List ℕ) (at : ℕ) → stepAt f at ≡ End → mastersFrom f at ≡ []
-unfolding mastersFrom
-masters-end f at e = rw (end-lines f at (step-end f at .0 e)) refl
+-- ---- the loop over a file's lines
+module _ (f : List ℕ) (at : ℕ) (w e : Watch) (v : watched w (stretchesOf (drop at f)) ≡ e) where
+  pub turn-end : stepAt f at ≡ End → w ≡ e
+  unfolding watched
+  turn-end h = rw (stretch-end f at h) at v
 
-module _ (f : List ℕ) (at start end next : ℕ) (e : stepAt f at ≡ At start end next) where
-  behind : next ≡ at + lineTaken (drop at f)
-  behind =
-      let s = step-served f at start end next e in
-      let i = step-in f at (let m = s .moves in let w = s .within in omega arith) in
-      cc
+  pub turn-next : (start end next : ℕ) (l : List ℕ) (u : Watch) → stepAt f at ≡ At start end next → l ≡ partOf f start end
+      → u ≡ seen w l (length l) (next - at) → watched u (stretchesOf (drop next f)) ≡ e
+  unfolding watched
+  turn-next start end next l u h p s = rw (s, p) (rw (stretch-next f at start end next h) at v)
 
-  pub masters-next : mastersFrom f at
-      ≡ cond (isMaster (partOf f start end)) (placedAt start (partOf f start end) ∷ mastersFrom f next) (mastersFrom f next)
-  unfolding mastersFrom
-  masters-next =
-      let s = step-served f at start end next e in
-      rw (s .lines, ← s .part, s .first, ← behind) refl
+pub turn-moves : (f : List ℕ) (at start end next : ℕ) → stepAt f at ≡ At start end next → (at < next) × (next ≤ length f)
+turn-moves f at start end next h = let s = step-served f at start end next h in (s .moves, s .within)
 
-  pub turn-moves : (at < next) × (next ≤ length f)
-  turn-moves = let s = step-served f at start end next e in (s .moves, s .within)
+-- ---- the first MASTER line
+module _ (text : List ℕ) (size at : ℕ) where
+  pub first-long : 1024 < size → Unread at size ≡ firstMaster text size at
+  first-long l = rw (lt-ltb 1024 size l) refl
 
-  reaches : stepAt f start ≡ At start end next
-  reaches = let s = step-served f at start end next e in ap (stepAt f) (s .first) ∙ e
+  module _ (few : size ≤ 1024) (s : Said) (says : s ≡ saidOf text) where
+    pub first-unread : s ≡ said.Unread → Unread at size ≡ firstMaster text size at
+    first-unread e = rw (le-ltb 1024 size few, ← says, e) refl
 
-  masters-here : isMaster (partOf f start end) ≡ true → mastersFrom f at ≡ placedAt start (partOf f start end) ∷ mastersFrom f next
-  masters-here m = rw (masters-next, m) refl
+    pub first-numbers : (m : Master) → s ≡ said.Numbers m → Numbers m ≡ firstMaster text size at
+    first-numbers m e = rw (le-ltb 1024 size few, ← says, e) refl
 
-  masters-later : isMaster (partOf f start end) ≡ false → mastersFrom f at ≡ mastersFrom f next
-  masters-later m = rw (masters-next, m) refl
+-- ---- the rest of a part
+module _ (part : List ℕ) (at behind number : ℕ) (w seen : Watch) (before after : List ℕ) (fresh : Held) (a : Absorbed) where
+  pub rest-watches : behind ≡ at + wholeLength (drop at part) → seen ≡ watched w (stretchesOf (take (behind - at) (drop at part))) → fresh ≡ none number
+      → Absorbs (record { held = fresh; kept = before }) (drop behind part) behind after a
+      → Watches (freely number w before (drop at part)) after (record { held = a .held; watch = seen })
+  rest-watches is sees new h =
+      let size : behind - at ≡ wholeLength (drop at part) = rw is (add-sub-cancel-left at (wholeLength (drop at part))) in
+      let lines : seen ≡ watched w (stretchesOf (wholeOf (drop at part))) = rw size at sees in
+      let rest : drop behind part ≡ drop (wholeLength (drop at part)) (drop at part) =
+      ap (λ (k : ℕ). drop k part) is ∙ sym (drop-drop (wholeLength (drop at part)) at part) in
+      let state : _≡_ {A = State} (record { held = a .held; kept = after }) (absorbed (begun number before) (drop (wholeLength (drop at part)) (drop at part))) =
+      h .state ∙ rw (new, rest) refl in
+      record { answer = rw (lines, ap (λ (x : State). x .held) state) refl; keeps = ap (λ (x : State). x .kept) state }
 
--- ---- a turn of the loop that looks for the first one from an offset on, and stands at i
-module _ (f : List ℕ) (at i : ℕ) (v : mastersFrom f i ≡ mastersFrom f at) where
-  pub turn-end : stepAt f i ≡ End → End ≡ stepTo f (mastersFrom f at)
-  turn-end e = rw (← v, masters-end f i e) refl
+-- ---- a part
+module _ (x : Progress) (t after : List ℕ) (r : Watched) where
+  pub part-free : x .state .held .total ≡ 0 → Watches (freely (x .state .held .number) (x .watch) (x .state .kept) t) after r → Watches (behindPart x t) after r
+  unfolding behindPart
+  part-free z h = rw (eq-eqb (x .state .held .total) 0 z) h
 
-  module _ (start end next : ℕ) (e : stepAt f i ≡ At start end next) (l : List ℕ) (is : l ≡ partOf f start end) (b : Bool) (tells : b ≡ isMaster l) where
-    pub turn-found : b ≡ true → At start end next ≡ stepTo f (mastersFrom f at)
-    turn-found m =
-        let named : isMaster (partOf f start end) ≡ true = ap isMaster (sym is) ∙ sym tells ∙ m in
-        rw (← v, masters-here f i start end next e named) (sym (reaches f i start end next e))
+module _ (x : Progress) (t kept : List ℕ) (a : Absorbed) (some : x .state .held .total ≡ 0 → ⊥) (h : Absorbs (x .state) t 0 kept a) where
+  pub part-held : length t ≤ a .at → Watches (behindPart x t) kept (record { held = a .held; watch = x .watch })
+  unfolding behindPart
+  part-held l =
+      let o = h .offset in
+      let state = h .state in
+      rw (ne-eqb (x .state .held .total) 0 some, le-ltb (beforeLf t) (length t) (omega arith))
+      (record { answer = rw (ap (λ (y : State). y .held) state) refl; keeps = ap (λ (y : State). y .kept) state })
 
-    pub turn-on : b ≡ false → mastersFrom f next ≡ mastersFrom f at
-    turn-on m =
-        let named : isMaster (partOf f start end) ≡ false = ap isMaster (sym is) ∙ sym tells ∙ m in
-        sym (masters-later f i start end next e named) ∙ v
+  pub part-ended : (w : Watch) (size taken : ℕ) (after : List ℕ) (r : Watched) → a .at < length t → size ≡ endedSize (a .held)
+      → taken ≡ numberBehind (a .held .total) → w ≡ seenHeld (x .watch) kept size taken
+      → Watches (freely (a .held .number) w kept (drop (a .at + 1) t)) after r → Watches (behindPart x t) after r
+  unfolding behindPart
+  part-ended w size taken after r l e f g rest =
+      let o = h .offset in
+      let state = h .state in
+      let held : a .held ≡ absorbed (x .state) t .held = ap (λ (y : State). y .held) state in
+      let bytes : kept ≡ absorbed (x .state) t .kept = ap (λ (y : State). y .kept) state in
+      let next : a .at + 1 ≡ suc (beforeLf t) = omega arith in
+      rw (ne-eqb (x .state .held .total) 0 some, lt-ltb (beforeLf t) (length t) (omega arith)) (rw (g, e, f, held, bytes, next) at rest)
 
--- ---- the first one
-pub record First (f : List ℕ) (at start end next : ℕ) : Type 0 where
-  pub named : isMaster (partOf f start end) ≡ true
-  pub lines : mastersFrom f at ≡ placedAt start (partOf f start end) ∷ mastersFrom f next
-  pub step : stepTo f (mastersFrom f at) ≡ At start end next
+-- ---- the end of the input
+module _ (w : Watch) (s : State) where
+  pub last-empty : s .held .total ≡ 0 → w ≡ lastWatch w s
+  unfolding lastWatch
+  last-empty z = rw (eq-eqb (s .held .total) 0 z) refl
 
--- there is none, or a first one
-abbrev Firsts : List ℕ → ℕ → Type 0
-Firsts f at = (mastersFrom f at ≡ []) ⊎ ((start : ℕ) × (end : ℕ) × (next : ℕ) × First f at start end next)
+  pub last-some : (r : Watch) → (s .held .total ≡ 0 → ⊥) → r ≡ seenHeld w (s .kept) (s .held .total) (s .held .total) → r ≡ lastWatch w s
+  unfolding lastWatch
+  last-some r z e = rw (ne-eqb (s .held .total) 0 z) e
 
-module _ (f : List ℕ) (at start end next : ℕ) (e : stepAt f at ≡ At start end next) where
-  first-here : isMaster (partOf f start end) ≡ true → First f at start end next
-  first-here m =
-      let here = masters-here f at start end next e m in
-      record { named = m; lines = here; step = rw here (reaches f at start end next e) }
-
-  first-later : isMaster (partOf f start end) ≡ false → Firsts f next → Firsts f at
-  first-later m (inl none) = inl (masters-later f at start end next e m ∙ none)
-  first-later m (inr (s, z, n, first)) =
-      let same = masters-later f at start end next e m in
-      inr (s, z, n, record { named = first .named; lines = same ∙ first .lines; step = ap (stepTo f) same ∙ first .step })
-
-  firsts-by : (b : Bool) → isMaster (partOf f start end) ≡ b → Firsts f next → Firsts f at
-  firsts-by true m rest = inr (start, end, next, first-here m)
-  firsts-by false m rest = first-later m rest
-
-firsts : (n : ℕ) (f : List ℕ) (at : ℕ) → length f ≤ at + n → Firsts f at
-firsts ℕ.zero f at h = inl (masters-end f at (step-end f at .1 (omega arith)))
-firsts (suc n) f at h = go (ltb at (length f)) refl (firsts n f)
-  where
-    go : (b : Bool) → ltb at (length f) ≡ b → ((next : ℕ) → length f ≤ next + n → Firsts f next) → Firsts f at
-    go false e rest = inl (masters-end f at (step-end f at .1 (ltb-false at (length f) e)))
-    go true e rest =
-        let here = step-in f at (ltb-true at (length f) e) in
-        let moves = turn-moves f at _ _ _ here in
-        firsts-by f at _ _ _ here (isMaster (partOf f at (at + lineLength (drop at f)))) refl (rest (at + lineTaken (drop at f)) (omega arith))
-
-all-firsts : (f : List ℕ) (at : ℕ) → Firsts f at
-all-firsts f at = firsts (length f) f at (omega arith)
-
-pub none-left : (f : List ℕ) (at : ℕ) → stepTo f (mastersFrom f at) ≡ End → mastersFrom f at ≡ []
-none-left f at e = go (all-firsts f at)
-  where
-    go : Firsts f at → mastersFrom f at ≡ []
-    go (inl none) = none
-    go (inr (s, z, n, first)) = let o = first .step in absurd (let x : _≡_ {A = ℕ} 0 1 = cc in omega arith)
-
-pub first-master : (f : List ℕ) (at start end next : ℕ) → stepTo f (mastersFrom f at) ≡ At start end next → First f at start end next
-first-master f at start end next e = go (all-firsts f at)
-  where
-    go : Firsts f at → First f at start end next
-    go (inl none) =
-        let o = ap (stepTo f) none in absurd (let x : _≡_ {A = ℕ} 0 1 = cc in omega arith)
-    go (inr (s, z, n, first)) =
-        let o = first .step in
-        let a : s ≡ start = cc in
-        let b : z ≡ end = cc in
-        let c : n ≡ next = cc in
-        rw (← a, ← b, ← c) first
+module _ {x : Progress} {kept lent : List ℕ} {r s : Watched} where
+  pub watches-one : Watches x kept r → Watches x lent s → (r ≡ s) × (kept ≡ lent)
+  watches-one a b = (a .answer ∙ sym (b .answer), a .keeps ∙ sym (b .keeps))

@@ -7,7 +7,7 @@
 --     compared-is                           what is handed out: the count over all lines, and what the line says
 --     bit-when                              bit n is set exactly when the n-th number of the MASTER line isn't the count
 -- Assumes nothing.
-use Prim.Native.Nat.{ℕ, zero, suc, _+_, _-_, _≤_, _<_}
+use Prim.Native.Nat.{ℕ, zero, suc, _+_, _≤_, _<_}
 use mathlib.Core.Path.{_≡_, refl, sym, ap, _∙_, subst}
 use mathlib.Core.Logic.{_↔_, _≢_, inl, inr}
 use mathlib.Core.Bool.{Bool, true, false, cond, _||_}
@@ -15,7 +15,9 @@ use mathlib.Core.List.{List, [], _∷_}
 use native.Mathlib.Omega.{arith}
 use borrow.Author.Tests.{eqb-true, eqb-false, ltb-true, ltb-false}
 use lib.Dec.{eqb, ltb}
-use lib.ListN.{length, drop, getD}
+use lib.ListN.{length, getD}
+use Rattle.carry.specs.Pieces.{Stretch, texts, stretchesOf}
+use Rattle.carry.proofs.Laws.Pieces.{texts-of}
 use Rattle.field.specs.Number.{unsignedAt}
 use Rattle.master.specs.Master.{at, masterOf}
 use Rattle.tally.specs.Names.{isMaster}
@@ -23,9 +25,9 @@ use Rattle.tally.specs.Tally.{count, countOver}
 use Rattle.tally.specs.Compare.{countsOf, saidBy, bitAt}
 use Rattle.tally.proofs.Laws.Bits.{bit-differs}
 use Rattle.tally.proofs.Laws.Count.{second-none}
-use Rattle.walker.specs.Lines.{linesOf, lineTaken}
+use Rattle.walker.specs.Lines.{linesOf}
 use Rattle.audit.specs.Said.{answer, isRefused, isUnread}
-use Rattle.audit.specs.Audit.{Placed, placed, masters, mastersFrom, refused, heldBy, held, judged, checked}
+use Rattle.audit.specs.Audit.{Placed, placedAt, placed, masters, mastersOf, refused, heldBy, held, judged, checked}
 use Rattle.audit.specs.Found.{differs}
 use Rattle.audit.specs.When.{mastersIn, numberOf, Unreadable}
 use Rattle.audit.specs.declared.Checked.the-variants as checked
@@ -33,20 +35,20 @@ use Rattle.audit.specs.declared.Compared.{Compared}
 use Rattle.audit.specs.declared.Said.the-variants.{Numbers, Unread}
 
 -- ---- how many there are
-masters-length : (f : List ℕ) (ls : List (List ℕ)) (at : ℕ) → length (masters (placed f ls at)) ≡ mastersIn ls
+masters-length : (at : ℕ) (ss : List Stretch) → length (masters (placed at ss)) ≡ mastersIn (texts ss)
 unfolding mastersIn
-masters-length f [] at = refl
-masters-length f (l ∷ ls) at = go (isMaster l) (masters-length f ls (at + lineTaken (drop at f)))
+masters-length at [] = refl
+masters-length at (s ∷ ss) = go (isMaster (s .text)) (masters-length (at + s .taken) ss)
   where
-    go : (b : Bool) → length (masters (placed f ls (at + lineTaken (drop at f)))) ≡ mastersIn ls
-        → length (cond b (record { start = at; text = l } ∷ masters (placed f ls (at + lineTaken (drop at f)))) (masters (placed f ls (at + lineTaken (drop at f)))))
-        ≡ cond b (suc (mastersIn ls)) (mastersIn ls)
+    go : (b : Bool) → length (masters (placed (at + s .taken) ss)) ≡ mastersIn (texts ss)
+        → length (cond b (placedAt at (s .text) ∷ masters (placed (at + s .taken) ss)) (masters (placed (at + s .taken) ss)))
+        ≡ cond b (suc (mastersIn (texts ss))) (mastersIn (texts ss))
     go true e = ap suc e
     go false e = e
 
-pub masters-counted : (f : List ℕ) → length (mastersFrom f 0) ≡ mastersIn (linesOf f)
-unfolding mastersFrom
-masters-counted f = masters-length f (linesOf f) 0
+pub masters-counted : (f : List ℕ) → length (mastersOf f) ≡ mastersIn (linesOf f)
+unfolding mastersOf
+masters-counted f = masters-length 0 (stretchesOf f) ∙ ap mastersIn (texts-of f)
 
 -- ---- the one line
 unread-when : (l : List ℕ) → (isUnread l ≡ true) ↔ Unreadable l
@@ -96,18 +98,18 @@ judged-eleven ls (p ∷ q ∷ ps) = (λ e. omega arith, λ e. refl)
 
 pub ten-when : (f : List ℕ) → (numberOf (checked f) ≡ 10) ↔ (mastersIn (linesOf f) ≡ 0)
 unfolding checked
-ten-when f = rw (← masters-counted f) (judged-ten (linesOf f) (mastersFrom f 0))
+ten-when f = rw (← masters-counted f) (judged-ten (linesOf f) (mastersOf f))
 
 pub eleven-when : (f : List ℕ) → (numberOf (checked f) ≡ 11) ↔ (2 ≤ mastersIn (linesOf f))
 unfolding checked
-eleven-when f = rw (← masters-counted f) (judged-eleven (linesOf f) (mastersFrom f 0))
+eleven-when f = rw (← masters-counted f) (judged-eleven (linesOf f) (mastersOf f))
 
 -- the one that there is, with some property
 abbrev pub One : List ℕ → (List ℕ → Type 0) → Type 0
-One f P = (p : Placed) × (mastersFrom f 0 ≡ p ∷ []) × P (p .text)
+One f P = (p : Placed) × (mastersOf f ≡ p ∷ []) × P (p .text)
 
 module _ (f : List ℕ) (n : ℕ) (b : Bool) (tells : (c : Bool) → (cond c 12 0 ≡ n) ↔ (c ≡ b)) (h : n ≢ 10) (k : n ≢ 11) where
-  judged-one : (ms : List Placed) → mastersFrom f 0 ≡ ms → (numberOf (judged (linesOf f) ms) ≡ n) → One f (λ l. isUnread l ≡ b)
+  judged-one : (ms : List Placed) → mastersOf f ≡ ms → (numberOf (judged (linesOf f) ms) ≡ n) → One f (λ l. isUnread l ≡ b)
   judged-one [] is e = absurd (h (sym e))
   judged-one (p ∷ []) is e = (p, is, tells (isUnread (p .text)) .0 (sym (held-number (linesOf f) p) ∙ e))
   judged-one (p ∷ q ∷ ps) is e = absurd (k (sym e))
@@ -118,7 +120,7 @@ module _ (f : List ℕ) (n : ℕ) (b : Bool) (tells : (c : Bool) → (cond c 12 
 
   one-when : (numberOf (checked f) ≡ n) ↔ One f (λ l. isUnread l ≡ b)
   unfolding checked
-  one-when = (judged-one (mastersFrom f 0) refl, one-judged)
+  one-when = (judged-one (mastersOf f) refl, one-judged)
 
 twelve-tells : (c : Bool) → (_≡_ {A = ℕ} (cond c 12 0) 12) ↔ (c ≡ true)
 twelve-tells true = (λ _. refl, λ _. refl)
@@ -146,11 +148,11 @@ checked-when f =
         go false e = refl
 
 -- ---- where they stand
-pub eleven-where : (f : List ℕ) (p q : Placed) (ps : List Placed) → mastersFrom f 0 ≡ p ∷ q ∷ ps → checked f ≡ refused 11 (q .start) (length (q .text))
+pub eleven-where : (f : List ℕ) (p q : Placed) (ps : List Placed) → mastersOf f ≡ p ∷ q ∷ ps → checked f ≡ refused 11 (q .start) (length (q .text))
 unfolding checked
 eleven-where f p q ps e = rw e refl
 
-pub twelve-where : (f : List ℕ) (p : Placed) → mastersFrom f 0 ≡ p ∷ [] → isUnread (p .text) ≡ true → checked f ≡ refused 12 (p .start) (length (p .text))
+pub twelve-where : (f : List ℕ) (p : Placed) → mastersOf f ≡ p ∷ [] → isUnread (p .text) ≡ true → checked f ≡ refused 12 (p .start) (length (p .text))
 unfolding checked
 twelve-where f p e u = rw (e, u) refl
 
@@ -158,14 +160,14 @@ twelve-where f p e u = rw (e, u) refl
 pub compared-is : (f : List ℕ) (c : Compared) → checked f ≡ checked.Compared c
     → One f (λ l. c ≡ record { counted = countOver (linesOf f); said = masterOf l })
 unfolding checked
-compared-is f c e = go (mastersFrom f 0) refl e
+compared-is f c e = go (mastersOf f) refl e
   where
     held-is : (p : Placed) (b : Bool) → heldBy (linesOf f) p (cond b Unread (Numbers (masterOf (p .text)))) ≡ checked.Compared c
         → c ≡ record { counted = countOver (linesOf f); said = masterOf (p .text) }
     held-is p true e = cc
     held-is p false e = cc
 
-    go : (ms : List Placed) → mastersFrom f 0 ≡ ms → judged (linesOf f) ms ≡ checked.Compared c
+    go : (ms : List Placed) → mastersOf f ≡ ms → judged (linesOf f) ms ≡ checked.Compared c
         → One f (λ l. c ≡ record { counted = countOver (linesOf f); said = masterOf l })
     go [] is e = absurd (let z : _≡_ {A = ℕ} 0 1 = cc in omega arith)
     go (p ∷ []) is e = (p, is, held-is p (isUnread (p .text)) e)

@@ -6,47 +6,25 @@
 use Prim.Native.Nat.{ℕ, suc, _+_}
 use mathlib.Core.Path.{_≡_, refl, sym, ap, _∙_}
 use mathlib.Core.Bool.{Bool, true, false, cond}
-use mathlib.Core.List.{List, [], _∷_, _++_, append-assoc, append-nil}
+use mathlib.Core.List.{List, [], _∷_, _++_, append-assoc}
 use native.Mathlib.Omega.{arith}
-use borrow.Author.Tests.{ltb-true, ltb-false, lt-ltb, eqb-true}
-use lib.ListN.{length, take, drop, length-append}
-use lib.Seq.{append-snoc, take-all}
-use lib.Dec.{eqb, ltb}
-use Rattle.parts.specs.Feed.{ends, behindLf, wholeLength, linesIn, freeText, freeState, partText, partState, partsText, partsState}
-use Rattle.parts.specs.Held.{mostKept, State, begun, absorbed, endedText, lastText}
-use Rattle.parts.specs.Pieces.{joined, endedLine, lastLine, finished, left}
-use Rattle.parts.proofs.Laws.Held.{Holds, holds-begun, holds-absorbed, holds-none, holds-ended, holds-last}
-use Rattle.parts.proofs.Laws.Pieces.{finished-split, left-split, lines-fed}
-use Rattle.parts.proofs.Laws.Whole.{whole-rest, finished-free, left-free, finished-none, left-all}
+use borrow.Author.Tests.{eqb-true}
+use lib.ListN.{length, take, length-append}
+use lib.Dec.{eqb}
+use Rattle.carry.specs.Held.{mostKept, State, begun, absorbed}
+use Rattle.carry.specs.Pieces.{joined, lastLine, passed, finished, left}
+use Rattle.carry.specs.Whole.{ends, behindLf, linesIn}
+use Rattle.carry.proofs.Laws.First.{first-split}
+use Rattle.carry.proofs.Laws.Held.{Holds, holds-begun, holds-absorbed, holds-none}
+use Rattle.carry.proofs.Laws.Left.{holds-free, holds-rest}
+use Rattle.carry.proofs.Laws.Pieces.{finished-split, left-split, lines-fed}
+use Rattle.carry.proofs.Laws.Whole.{finished-free, finished-none}
+use Rattle.parts.specs.Feed.{freeText, freeState, partText, partState, partsText, partsState}
+use Rattle.parts.specs.Held.{endedText, lastText}
+use Rattle.parts.proofs.Laws.Held.{holds-ended, holds-last}
 use Rattle.report.specs.Fill.{reportsFrom}
 use Rattle.report.specs.Report.{report}
 use Rattle.walker.specs.Lines.{beforeLf, linesOf}
-
--- ---- bytes by their first LF
--- without one they are all kept
-before-all : (t : List ℕ) → ends t ≡ false → take (beforeLf t) t ≡ t
-before-all t e = take-all (beforeLf t) t (ltb-false (beforeLf t) (length t) e)
-
--- with one: the line that it ends, and then what the rest finishes and leaves
-pub record Split (p t : List ℕ) : Type 0 where
-  pub lines : finished p t ≡ endedLine (p ++ take (beforeLf t) t) ∷ finished [] (behindLf t)
-  pub rest : left p t ≡ left [] (behindLf t)
-
-first-split : (p t : List ℕ) → ends t ≡ true → Split p t
-unfolding finished left beforeLf
-first-split p [] e = let l = ltb-true 0 0 e in absurd (omega arith)
-first-split p (b ∷ t) e = go (eqb b 10) refl (first-split (p ++ b ∷ []) t) e
-  where
-    go : (c : Bool) → eqb b 10 ≡ c → (ends t ≡ true → Split (p ++ b ∷ []) t) → ltb (cond c 0 (suc (beforeLf t))) (suc (length t)) ≡ true
-        → Split p (b ∷ t)
-    go true f ih e = record { lines = rw f (rw (append-nil p) refl); rest = rw f refl }
-    go false f ih e =
-        let l = ltb-true (suc (beforeLf t)) (suc (length t)) e in
-        let s = ih (lt-ltb (beforeLf t) (length t) (omega arith)) in
-        record {
-          lines = rw f (s .lines ∙ ap (λ (q : List ℕ). endedLine q ∷ finished [] (behindLf t)) (append-snoc p b (take (beforeLf t) t)));
-          rest = rw f (s .rest);
-        }
 
 -- ---- one part
 pub record Given (p : List ℕ) (n : ℕ) (t text : List ℕ) (state : State) : Type 0 where
@@ -55,11 +33,7 @@ pub record Given (p : List ℕ) (n : ℕ) (t text : List ℕ) (state : State) : 
 
 -- nothing is held before it
 free-lines : (k n : ℕ) (kept t : List ℕ) → k ≡ n → length kept ≡ mostKept → Holds (left [] t) (n + length (finished [] t)) (freeState k kept t)
-free-lines k n kept t e h =
-    let m = n + length (linesIn t) in
-    let rest = drop (wholeLength t) t in
-    let some = holds-absorbed [] m (begun m kept) rest (holds-begun m kept h) in
-    rw (e, finished-free t, left-free t) (rw (before-all rest (whole-rest t)) at some)
+free-lines k n kept t e h = rw (e, finished-free t) (holds-free (n + length (linesIn t)) kept t h)
 
 free-text : (k n : ℕ) (t : List ℕ) → k ≡ n → freeText k t ≡ reportsFrom n (finished [] t)
 free-text k n t e = rw (e, finished-free t) refl
@@ -72,8 +46,7 @@ module _ (p : List ℕ) (n : ℕ) (s : State) (t : List ℕ) (h : Holds p n s) w
   unfolding reportsFrom
   given-none e =
       let same : n + 0 ≡ n = omega arith in
-      let all = rw (before-all t e) at at-lf in
-      record { prints = rw (finished-none p t e) refl; holds = rw (finished-none p t e, left-all p t e, same) all }
+      record { prints = rw (finished-none p t e) refl; holds = rw (finished-none p t e, same) (holds-rest p n s t h e) }
 
   given-free : s .held .total ≡ 0 → Given p n t (freeText (s .held .number) t) (freeState (s .held .number) (s .kept) t)
   given-free z =
@@ -113,7 +86,7 @@ reports-append n (l ∷ a) b =
     rw (e, reports-append (suc n) a b) (sym (append-assoc (report n l) (reportsFrom (suc n) a) (reportsFrom (suc n + length a) b)))
 
 parts-held : (p : List ℕ) (n : ℕ) (s : State) (ps : List (List ℕ)) → Holds p n s → Given p n (joined ps) (partsText s ps) (partsState s ps)
-unfolding partsText partsState joined finished left reportsFrom
+unfolding partsText partsState joined passed left reportsFrom
 parts-held p n s [] h = let same : n + 0 ≡ n = omega arith in record { prints = refl; holds = rw same h }
 parts-held p n s (a ∷ ps) h =
     let f = part-lines p n s a h in

@@ -10,13 +10,14 @@ use native.Mathlib.Omega.{arith}
 use borrow.Author.Tests.{lt-ltb, le-ltb}
 use lib.ListN.{length, take, drop, take-append-drop}
 use lib.Seq.{drop-append-le, length-take-le}
+use Rattle.carry.specs.Held.{mostKept}
 use Rattle.lexer.specs.Refusals.{excess}
 use Rattle.lexitem.specs.Answer.{refusal}
 use Rattle.listing.specs.Listing.{longest}
 use Rattle.page.specs.Page.{Page, page, put}
 use Rattle.page.proofs.Laws.Page.{put-count, put-front}
 use Rattle.parts.specs.Feed.{Puts}
-use Rattle.parts.specs.Held.{mostKept, overRows, heldText}
+use Rattle.parts.specs.Held.{overRows, heldText}
 use Rattle.report.specs.Report.{report, reportOf, inputOf}
 use Rattle.report.proofs.Laws.Room.{report-room, refused-most}
 

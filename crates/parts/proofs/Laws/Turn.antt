@@ -14,13 +14,15 @@ use native.Mathlib.Omega.{arith}
 use borrow.Author.Tests.{lt-ltb, le-ltb, eq-eqb, ne-eqb}
 use lib.ListN.{length, take, drop, length-take, length-drop}
 use lib.Dec.{eqb}
+use Rattle.carry.specs.Held.{State, none, absorbed, Absorbs, endedSize}
+use Rattle.carry.specs.Whole.{ends, wholeLength, wholeOf}
+use Rattle.carry.specs.declared.held.Held.{Held}
+use Rattle.carry.specs.declared.keep.Absorbed.{Absorbed}
+use Rattle.carry.proofs.Laws.Whole.{ends-some, ends-none}
 use Rattle.listing.specs.Listing.{longest}
-use Rattle.parts.specs.Feed.{Feeds, FeedsWhole, Behind, Puts, ends, wholeLength, closed, whole, turn, ending}
-use Rattle.parts.specs.Held.{State, none, absorbed, Absorbs, endedSize, endedText, heldText, lastText}
+use Rattle.parts.specs.Feed.{Feeds, FeedsWhole, Behind, Puts, closed, whole, turn, ending}
+use Rattle.parts.specs.Held.{endedText, heldText, lastText}
 use Rattle.parts.specs.declared.Fed.{Fed}
-use Rattle.parts.specs.declared.held.Held.{Held}
-use Rattle.parts.specs.declared.keep.Absorbed.{Absorbed}
-use Rattle.parts.proofs.Laws.Whole.{ends-some, ends-none}
 use Rattle.report.specs.Fill.{filling, Fills}
 use Rattle.report.proofs.Laws.Fillings.{filling-at}
 use Rattle.report.specs.declared.fill.Filled.{Filled}
@@ -49,7 +51,7 @@ module _ (s : State) (t : List ℕ) (at : ℕ) (before : List ℕ) where
         no false = refl
 
     pub feeds-lines : s .held .total ≡ 0 → 0 < wholeLength t
-        → Feeds (whole (filling (length before) (take (wholeLength t) t) 0 (s .held .number)) s) at before after kept r
+        → Feeds (whole (filling (length before) (wholeOf t) 0 (s .held .number)) s) at before after kept r
         → Feeds (turn (length before) s t) at before after kept r
     unfolding turn
     feeds-lines z w f = rw (le-ltb (length before) longest enough, eq-eqb (s .held .total) 0 z, ends-some t w) f

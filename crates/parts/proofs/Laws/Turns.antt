@@ -14,10 +14,12 @@ use borrow.Author.Tests.{le-ltb, ltb-true, ltb-false}
 use lib.ListN.{length, take, drop, length-take, length-drop, drop-of-length-le}
 use lib.Seq.{drop-drop, drop-at, take-add, length-take-le}
 use lib.Dec.{eqb, ltb}
+use Rattle.carry.specs.Held.{State, begun, keep, absorbed}
+use Rattle.carry.specs.Whole.{ends, behindLf, wholeLength, wholeOf, linesIn}
+use Rattle.carry.proofs.Laws.Whole.{whole-le, whole-zero, whole-drop, whole-ends}
 use Rattle.listing.specs.Listing.{longest}
-use Rattle.parts.specs.Feed.{ends, behindLf, wholeLength, linesIn, freeText, freeState, partText, partState, Turn, whole, turn, turnsText, turnsState}
-use Rattle.parts.specs.Held.{State, begun, keep, absorbed, endedText}
-use Rattle.parts.proofs.Laws.Whole.{whole-le, whole-zero, whole-drop, whole-ends}
+use Rattle.parts.specs.Feed.{freeText, freeState, partText, partState, Turn, whole, turn, turnsText, turnsState}
+use Rattle.parts.specs.Held.{endedText}
 use Rattle.report.specs.Fill.{Filling, filling, reportsFrom, Enough}
 use Rattle.report.proofs.Laws.Fillings.{filling-left, filling-fewer, filling-at}
 use Rattle.walker.specs.Lines.{beforeLf, linesOf, numberBehind}
@@ -72,7 +74,7 @@ before-le (b ∷ t) = go (eqb b 10) (before-le t)
     go false h = omega arith
 
 pub lines-in-le : (t : List ℕ) → length (linesIn t) ≤ length t
-lines-in-le t = omega (arith, lines-le (take (wholeLength t) t), length-take (wholeLength t) t)
+lines-in-le t = omega (arith, lines-le (wholeOf t), length-take (wholeLength t) t)
 
 pub part-number : (s : State) (t : List ℕ) → partState s t .held .number ≤ s .held .number + length t
 unfolding partState
@@ -115,7 +117,7 @@ goes-ended s t e z b =
 
 -- lines that stand whole: behind some of them, the others
 module _ (t : List ℕ) (k : ℕ) (l : k ≤ wholeLength t) where
-  rest-lines : drop k (take (wholeLength t) t) ≡ take (wholeLength (drop k t)) (drop k t)
+  rest-lines : drop k (wholeOf t) ≡ take (wholeLength (drop k t)) (drop k t)
   rest-lines =
       let w = wholeLength t in
       let sum : k + (w - k) ≡ w = omega arith in
@@ -130,15 +132,15 @@ module _ (t : List ℕ) (k : ℕ) (l : k ≤ wholeLength t) where
 
 module _ (room n : ℕ) (t : List ℕ) where
   abbrev f : Filling
-  f = filling room (take (wholeLength t) t) 0 n
+  f = filling room (wholeOf t) 0 n
 
   offset : f .at ≤ wholeLength t
-  offset = omega (arith, filling-at room (take (wholeLength t) t) n, length-take (wholeLength t) t)
+  offset = omega (arith, filling-at room (wholeOf t) n, length-take (wholeLength t) t)
 
   goes-free : (kept : List ℕ) → n + length (linesIn t) < 2 ^ 64
       → (freeText n t ≡ f .text ++ freeText (f .number) (drop (f .at) t)) × (freeState n kept t ≡ freeState (f .number) kept (drop (f .at) t))
   goes-free kept few =
-      let left = filling-left room (take (wholeLength t) t) 0 n few in
+      let left = filling-left room (wholeOf t) 0 n few in
       let same = rest-lines t (f .at) offset in
       let sum = rw same at (left .sum) in (
         rw same at (left .text),
@@ -153,11 +155,11 @@ module _ (room n : ℕ) (t : List ℕ) where
       go false e =
           let z : f .at ≡ 0 = let h = ltb-false 0 (f .at) e in omega arith in
           let size = length-take-le (wholeLength t) t (whole-le t) in
-          let fewer = rw z at (filling-fewer room (take (wholeLength t) t) 0 n enough (omega arith) few) in
+          let fewer = rw z at (filling-fewer room (wholeOf t) 0 n enough (omega arith) few) in
           absurd (omega arith)
 
 goes-whole : (room : ℕ) (s : State) (t : List ℕ) → ends t ≡ true → eqb (s .held .total) 0 ≡ true → partState s t .held .number < 2 ^ 64
-    → Goes s t (whole (filling room (take (wholeLength t) t) 0 (s .held .number)) s)
+    → Goes s t (whole (filling room (wholeOf t) 0 (s .held .number)) s)
 unfolding partText partState
 goes-whole room s t e z b =
     let n = s .held .number in
@@ -176,7 +178,7 @@ module _ (room : ℕ) (s : State) (t : List ℕ) (b : partState s t .held .numbe
     where
       go : (c z : Bool) → eqb (s .held .total) 0 ≡ z → (d : Bool) → ends t ≡ d
           → Goes s t (cond c (record { text = []; state = s; taken = 0 })
-          (cond (z && d) (whole (filling room (take (wholeLength t) t) 0 (s .held .number)) s)
+          (cond (z && d) (whole (filling room (wholeOf t) 0 (s .held .number)) s)
           (cond d (record { text = endedText (absorbed s t); state = begun (numberBehind (absorbed s t .held .number)) (absorbed s t .kept); taken = suc (beforeLf t) })
           (record { text = []; state = absorbed s t; taken = beforeLf t }))))
       go true z f d e = record { text = refl; state = refl }
@@ -191,7 +193,7 @@ module _ (room : ℕ) (s : State) (t : List ℕ) (b : partState s t .held .numbe
     where
       go : (c z d : Bool) → ends t ≡ d
           → cond c (record { text = []; state = s; taken = 0 })
-          (cond (z && d) (whole (filling room (take (wholeLength t) t) 0 (s .held .number)) s)
+          (cond (z && d) (whole (filling room (wholeOf t) 0 (s .held .number)) s)
           (cond d (record { text = endedText (absorbed s t); state = begun (numberBehind (absorbed s t .held .number)) (absorbed s t .kept); taken = suc (beforeLf t) })
           (record { text = []; state = absorbed s t; taken = beforeLf t }))) .taken ≤ length t
       go true z d e = omega arith
@@ -205,7 +207,7 @@ module _ (room : ℕ) (s : State) (t : List ℕ) (b : partState s t .held .numbe
   turn-moves enough some = rw (le-ltb room longest enough) (go (eqb (s .held .total) 0) refl (ends t) refl)
     where
       go : (z : Bool) → eqb (s .held .total) 0 ≡ z → (d : Bool) → ends t ≡ d
-          → 0 < cond (z && d) (whole (filling room (take (wholeLength t) t) 0 (s .held .number)) s)
+          → 0 < cond (z && d) (whole (filling room (wholeOf t) 0 (s .held .number)) s)
           (cond d (record { text = endedText (absorbed s t); state = begun (numberBehind (absorbed s t .held .number)) (absorbed s t .kept); taken = suc (beforeLf t) })
           (record { text = []; state = absorbed s t; taken = beforeLf t })) .taken
       go true f true e =

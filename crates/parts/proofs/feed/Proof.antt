@@ -3,7 +3,7 @@
 use native.Mathlib.Omega.{arith}
 use lib.ListN.{drop, length-drop}
 use Rattle.parts.proofs.Laws.Turn.{feeds-none, feeds-held, feeds-rest, feeds-lines}
-use Rattle.parts.proofs.Laws.Whole.{whole-le}
+use Rattle.carry.proofs.Laws.Whole.{whole-le}
 use borrow.Author.Needs.{needs}
 use Rattle.parts.proofs.feed.Statement.{statement}
 use Rattle.parts.proofs.feed.Tie as tie

@@ -18,8 +18,10 @@ use lib.ListN.{length, take, drop, length-append, length-take, length-drop, drop
 use lib.Seq.{drop-drop, take-at, drop-at}
 use lib.Dec.{eqb, ltb}
 use Rattle.listing.specs.Listing.{longest}
-use Rattle.parts.specs.Feed.{Turn, turn, Feeds, Puts, ending, ends, behindLf, linesIn, freeText, partText, partState, partsState}
-use Rattle.parts.specs.Held.{State, mostKept, absorbed, endedSize, endedText, heldText, overRows, lastText}
+use Rattle.carry.specs.Held.{State, mostKept, absorbed, endedSize}
+use Rattle.carry.specs.Whole.{ends, behindLf, linesIn}
+use Rattle.parts.specs.Feed.{Turn, turn, Feeds, Puts, ending, freeText, partText, partState, partsState}
+use Rattle.parts.specs.Held.{endedText, heldText, overRows, lastText}
 use Rattle.parts.specs.declared.Fed.{Fed}
 use Rattle.parts.proofs.Laws.Put.{over-few}
 use Rattle.parts.proofs.Laws.Turns.{Goes, turn-goes, turn-moves, turn-within, part-number, lines-in-le}

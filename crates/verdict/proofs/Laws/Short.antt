@@ -9,7 +9,6 @@ use mathlib.Core.List.{List, [], _∷_}
 use native.Mathlib.Omega.{arith}
 use lib.Dec.{eqb, ltb, lit≤}
 use lib.ListN.{length, length-append}
-use Rattle.audit.specs.Audit.{checked}
 use Rattle.audit.specs.declared.Checked.{Checked}
 use Rattle.audit.specs.declared.Checked.the-variants as checked
 use Rattle.audit.specs.declared.Compared.{Compared}
@@ -21,7 +20,7 @@ use Rattle.page.specs.Page.{Page, page, put}
 use Rattle.page.proofs.Laws.Page.{put-count}
 use Rattle.tally.specs.Compare.{countsOf, saidBy, differing}
 use Rattle.tally.specs.declared.Tally.{Tally}
-use Rattle.verdict.specs.Verdict.{sameOrNot, row, upperRows, lowerRows, lacks, lastRow, comparedRows, why, refusedRows, verdictOf, most, verdict}
+use Rattle.verdict.specs.Verdict.{sameOrNot, row, upperRows, lowerRows, lacks, lastRow, comparedRows, why, refusedRows, verdictOf}
 
 -- one text or another
 either-most : (n : ℕ) (b : Bool) (s t : List ℕ) → length s ≤ n → length t ≤ n → length (cond b s t) ≤ n
@@ -92,24 +91,20 @@ three-most a b c =
     simp length-append (omega arith)
 
 -- ---- a file
-checked-most : (c : Checked) → length (verdictOf c) ≤ 4096
+pub verdict-short : (c : Checked) → length (verdictOf c) ≤ 4096
 unfolding comparedRows refusedRows
-checked-most (checked.Compared c) =
+verdict-short (checked.Compared c) =
     let a = upper-most (c .counted) (c .said) in
     let b = lower-most (c .counted) (c .said) in
     let d = last-most (c .counted) (c .said) in
     simp length-append (omega arith)
-checked-most (checked.Refused r) =
+verdict-short (checked.Refused r) =
     let a = three-most (r .number) (r .place) (r .length) in
     let b = why-most (r .number) in
     simp length-append (omega arith)
 
-pub verdict-short : (f : List ℕ) → length (verdict f) ≤ 4096
-unfolding verdict
-verdict-short f = either-most 4096 (ltb most (length f)) (bytes "the file has over 65,536 bytes, and was not checked\n") (verdictOf (checked f)) (lit≤ tt) (checked-most (checked f))
-
-pub put-short : (f before after : List ℕ) (n : ℕ) → page after n ≡ put (page before 0) (verdict f) → n ≤ 4096
-put-short f before after n e =
-    let short = verdict-short f in
-    let count : n ≡ length (verdict f) = ap (λ (p : Page). p .at) e ∙ put-count before (verdict f) (omega arith) in
+pub put-short : (c : Checked) (before after : List ℕ) (n : ℕ) → page after n ≡ put (page before 0) (verdictOf c) → n ≤ 4096
+put-short c before after n e =
+    let short = verdict-short c in
+    let count : n ≡ length (verdictOf c) = ap (λ (p : Page). p .at) e ∙ put-count before (verdictOf c) (omega arith) in
     omega arith
