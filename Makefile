@@ -7,16 +7,18 @@ FILE ?= examples/zinc.pdb
 
 program := target/bin/pdblist
 checker := target/bin/pdbmaster
+mender := target/bin/pdbmend
 server := target/bin/serve
 library := target/staticlib/libsaltighedda.a
 sources := crates.txt $(shell find crates -type f)
 
 .NOTPARALLEL:
-.PHONY: help list master test needs format contracts hosts compare oracle differential bench install
+.PHONY: help list master mend test needs format contracts hosts compare oracle differential bench install
 
 help:
 	@echo 'make list FILE=..        lists the lines of a PDB file, and what could not be read of them'
 	@echo 'make master FILE=..      whether the lines of a PDB file are as many as its MASTER line says'
+	@echo 'make mend FILE=..        the lines of a PDB file, mended as far as that is honest; what was done is told on standard error'
 	@echo 'make test                everything that is checked: proofs, must-fail edits, test programs, C hosts, a short differential run'
 	@echo 'make install PREFIX=..   the programs, the C header and the static library, with a file for pkg-config'
 	@echo 'make differential        ten million lines and a million written records, compared with the Rust (needs rustc, see differential/README.md)'
@@ -30,6 +32,9 @@ list: $(program)
 master: $(checker)
 	@tools/run $(checker) < '$(FILE)'
 
+mend: $(mender)
+	@tools/run $(mender) < '$(FILE)'
+
 # Says nothing but what went wrong. A program is built once it is proved, and so is the library.
 define quietly
 	@mkdir -p $(@D) target/make; \
@@ -38,7 +43,7 @@ define quietly
 	touch $@
 endef
 
-$(program) $(checker) $(server): $(sources)
+$(program) $(checker) $(mender) $(server): $(sources)
 	$(call quietly,rt check $(@F))
 
 $(library): $(sources)
@@ -67,10 +72,11 @@ contracts:
 	@tests/house.sh
 	@tests/margins.sh
 
-hosts: $(program) $(checker) $(library)
+hosts: $(program) $(checker) $(mender) $(library)
 	@tests/run.sh
 	@tests/pdblist.sh
 	@tests/pdbmaster.sh
+	@tests/pdbmend.sh
 	@tests/c.sh
 
 compare: $(server)
@@ -88,10 +94,11 @@ differential: $(server)
 bench:
 	@bench/run.sh
 
-install: $(program) $(checker) $(library)
+install: $(program) $(checker) $(mender) $(library)
 	@install -d '$(DESTDIR)$(PREFIX)/bin' '$(DESTDIR)$(PREFIX)/include' '$(DESTDIR)$(PREFIX)/lib/pkgconfig'
 	@install -m 755 $(program) '$(DESTDIR)$(PREFIX)/bin/pdblist'
 	@install -m 755 $(checker) '$(DESTDIR)$(PREFIX)/bin/pdbmaster'
+	@install -m 755 $(mender) '$(DESTDIR)$(PREFIX)/bin/pdbmend'
 	@install -m 644 include/saltighedda.h '$(DESTDIR)$(PREFIX)/include/saltighedda.h'
 	@install -m 644 $(library) '$(DESTDIR)$(PREFIX)/lib/libsaltighedda.a'
 	@sed 's|@PREFIX@|$(PREFIX)|' saltighedda.pc.in > '$(DESTDIR)$(PREFIX)/lib/pkgconfig/saltighedda.pc'

@@ -1,6 +1,7 @@
 /*
  * saltighedda.h: a line of a PDB file, listed, with what could not be read and how many decimals were written; its kind alone; a
- * record, written as a line; a position, moved by the rows of a transformation; and a file, held against its MASTER line.
+ * record, written as a line; a position, moved by the rows of a transformation; a file, held against its MASTER line; and a damaged
+ * line, mended.
  *
  * Every entry takes any bytes and any numbers; nothing has to be checked beforehand. A host has one duty: a buffer is a pointer
  * and the number of bytes that are there, the output's bytes are in no other buffer of the call, and nobody else writes to them
@@ -282,6 +283,28 @@ uint64_t saltighedda_apply(const double *rows, size_t rows_len, const uint8_t *s
 uint64_t saltighedda_check_master(const uint8_t *file, size_t file_len, uint64_t *found, size_t found_len);
 uint64_t saltighedda_check_master_place(const uint8_t *file, size_t file_len);
 uint64_t saltighedda_check_master_length(const uint8_t *file, size_t file_len);
+
+/*
+ * Mends what can honestly be mended of a line, into the front of `out`: each byte of 128 or more is made `?`, and an ATOM or HETATM
+ * under 80 bytes is padded with blanks to 80, but only if no field starts before the line's end and stops after it, so that a cut
+ * number never passes for a whole one. 78 bytes are padded, 79 aren't: they cut the charge. Every other kind keeps its length. 0 is
+ * done, else a refusal as above: 2, 1024, excess for a line over 1,024 bytes; 8, 0, bytes needed for an output that is too short; then
+ * 8, 0, 514 for too few words. Bytes behind the mended line and words behind the last change stay as they were; on a refusal all do.
+ *
+ * changes[0] is the mended length and changes[1] the number of changes, at most 512. Then comes a word for each, ascending by place:
+ * bytes that were made `?`, neighbours as one, and at the end the blanks that were put behind the line. Where a byte was made `?` the
+ * one that stood there isn't known any more; all else comes back by taking the blanks off.
+ *
+ * A field that the line reached and that no change touches reads the same. Of those that it didn't reach, a number's fault 1 becomes
+ * fault 2, and its value stays the default; a text's or a character's fault 1 goes, and a chain is then a blank.
+ */
+#define SALTIGHEDDA_MEND_WORDS 514
+
+#define SALTIGHEDDA_CHANGE_PLACE(word)  ((size_t)((word) & 0xFFFF))
+#define SALTIGHEDDA_CHANGE_LENGTH(word) ((size_t)((word) >> 16 & 0xFFFF))
+#define SALTIGHEDDA_CHANGE_WHAT(word)   ((unsigned)((word) >> 32)) /* 1 bytes made `?`, 2 blanks put behind the line */
+
+uint64_t saltighedda_mend(const uint8_t *line, size_t line_len, uint8_t *out, size_t out_len, uint64_t *changes, size_t changes_len);
 
 /*
  * The same by name: a struct for each family, and a function that hands its members over. A member that an initializer leaves out

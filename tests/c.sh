@@ -1,9 +1,10 @@
 #!/bin/bash
 # The C face from C: the edges of its entries, the kinds of drawn lines beside the rule, the columns that don't matter and those that do, what is
 # written beside what printf writes, what is moved beside C's own doubles, how many decimals were read beside how many were drawn, exponents
-# beside whole numbers and strtod, files held against their MASTER lines beside a count of C's own, the example hosts on the sample file and on
-# made ones, and an installation as a C programmer uses it. All is compiled for x86-64, as the library is. Wants target/staticlib/libsaltighedda.a, target/bin/pdblist and
-# target/bin/pdbmaster. Prints a line for each thing that holds; the status is 1 if one doesn't.
+# beside whole numbers and strtod, files held against their MASTER lines beside a count of C's own, lines mended beside a mending of C's own, the
+# example hosts on the sample file and on made ones, and an installation as a C programmer uses it. All is compiled for x86-64, as the library is.
+# Wants target/staticlib/libsaltighedda.a, target/bin/pdblist, target/bin/pdbmaster and target/bin/pdbmend. Prints a line for each thing that
+# holds; the status is 1 if one doesn't.
 set -eu
 cd "$(dirname "${BASH_SOURCE[0]}")/.."
 . tests/have.sh
@@ -312,6 +313,10 @@ $CC $warned -Iinclude -o "$folder/master" tests/master.c target/staticlib/libsal
 "$run" "$folder/master" || fail "a file isn't held against its MASTER line as the header says"
 echo "c: files are held against their MASTER lines as the header says, twenty thousand drawn ones as another count has them"
 
+$CC $warned -Iinclude -o "$folder/mend" tests/mend.c target/staticlib/libsaltighedda.a
+"$run" "$folder/mend" || fail "a line isn't mended as the header says"
+echo "c: a million drawn and cut lines are mended as another mending has them, and read as the header says"
+
 if why=$(missing rust); then
     echo "c: left out: $why"
 else
@@ -364,6 +369,7 @@ else
     transformed 2 2 $memory "$folder/transform"
     $memory "$folder/places" 5000 || fail "valgrind found a fault in the use of memory"
     $memory "$folder/exponents" 5000 > "$folder/told" || fail "valgrind found a fault in the use of memory"
+    $memory "$folder/mend" 5000 || fail "valgrind found a fault in the use of memory"
     $memory "$folder/master" 500 || fail "valgrind found a fault in the use of memory"
     rewritten same.pdb 0 $memory "$folder/rewrite"
     rewritten other.pdb 1 $memory "$folder/rewrite"
@@ -388,3 +394,6 @@ fi
 echo "c: the installed pdblist lists"
 "$run" "$prefix/bin/pdbmaster" < crates/pdbmaster/stdin | cmp - crates/pdbmaster/stdout || fail "the installed pdbmaster printed something else"
 echo "c: the installed pdbmaster checks"
+"$run" "$prefix/bin/pdbmend" < crates/pdbmend/stdin 2> "$folder/rows" | cmp - crates/pdbmend/stdout || fail "the installed pdbmend wrote something else"
+[ -s "$folder/rows" ] || fail "the installed pdbmend told nothing"
+echo "c: the installed pdbmend mends"

@@ -7,3 +7,4 @@ pub mod One
 pub mod Write
 pub mod Matrix
 pub mod Check
+pub mod Mend

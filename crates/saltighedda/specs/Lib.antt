@@ -6,3 +6,4 @@ pub mod Places
 pub mod Write
 pub mod Matrix
 pub mod Check
+pub mod Mend

@@ -41,7 +41,7 @@ use Rattle.margins.proofs.Laws.Entries.{on, Level, level, Agree, AgreeO
 use Rattle.margins.proofs.Laws.Margins.{fields-agree, items-same}
 
 -- ---- the triples' rows have their columns by `tripleAt`, and the table names the first of them
-abbrev inPlace : Entry → Bool
+abbrev pub inPlace : Entry → Bool
 inPlace (triples start) = eqb start (tripleAt 0)
 inPlace (u at) = true
 inPlace (i at) = true

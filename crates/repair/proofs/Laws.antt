@@ -1,0 +1,5 @@
+-- Laws of the rows.
+pub mod Rows
+pub mod Room
+pub mod Repair
+pub mod One
