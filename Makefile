@@ -1,15 +1,21 @@
-# Needs bash and `rt`, the Rattle toolchain, on PATH. A C compiler, valgrind, pkg-config and rustc serve the tests that want them.
+# Needs bash and `rt`, the Rattle toolchain, on PATH. A C compiler, valgrind, pkg-config, rustc, cargo and python3 serve the tests that want
+# them.
 SHELL := /bin/bash
 .SHELLFLAGS := -eu -o pipefail -c
 
 PREFIX ?= /usr/local
 FILE ?= examples/zinc.pdb
 
+# Of the library. The first number is the one that programs ask the loader for: it goes up when an entry goes or changes.
+version := 0.1.0
+
 program := target/bin/pdblist
 checker := target/bin/pdbmaster
 mender := target/bin/pdbmend
 server := target/bin/serve
 library := target/staticlib/libsaltighedda.a
+known := libsaltighedda.so.$(firstword $(subst ., ,$(version)))
+shared := target/shared/libsaltighedda.so.$(version)
 sources := crates.txt $(shell find crates -type f)
 
 .NOTPARALLEL:
@@ -19,8 +25,8 @@ help:
 	@echo 'make list FILE=..        lists the lines of a PDB file, and what could not be read of them'
 	@echo 'make master FILE=..      whether the lines of a PDB file are as many as its MASTER line says'
 	@echo 'make mend FILE=..        the lines of a PDB file, mended as far as that is honest; what was done is told on standard error'
-	@echo 'make test                everything that is checked: proofs, must-fail edits, test programs, C hosts, a short differential run'
-	@echo 'make install PREFIX=..   the programs, the C header and the static library, with a file for pkg-config'
+	@echo 'make test                everything that is checked: proofs, must-fail edits, test programs, hosts in C, Rust and Python, a short differential run'
+	@echo 'make install PREFIX=..   the programs, the C header and the library, static and shared, with a file for pkg-config'
 	@echo 'make differential        ten million lines and a million written records, compared with the Rust (needs rustc, see differential/README.md)'
 	@echo 'make bench               how quick it is beside the Rust and plain C (needs rustc and cc, see docs/SPEED.md)'
 	@echo 'make format              the layout of the sources alone'
@@ -49,6 +55,10 @@ $(program) $(checker) $(mender) $(server): $(sources)
 $(library): $(sources)
 	$(call quietly,rt staticlib saltighedda)
 
+# Without a C compiler for x86-64 there is none, and that is said.
+$(shared): $(library) include/saltighedda.h tools/share tools/entries
+	@tools/share $(library) include/saltighedda.h $@ || [ $$? = 3 ]
+
 # What will be left out is told first, and the rest is tried once the proofs hold, the comparison beside the hosts. Their own count of what
 # passed and what failed is the last line printed.
 test: needs format contracts
@@ -72,12 +82,16 @@ contracts:
 	@tests/house.sh
 	@tests/margins.sh
 
-hosts: $(program) $(checker) $(mender) $(library)
+hosts: $(program) $(checker) $(mender) $(library) $(shared)
 	@tests/run.sh
 	@tests/pdblist.sh
 	@tests/pdbmaster.sh
 	@tests/pdbmend.sh
 	@tests/c.sh
+	@tests/shared.sh
+	@tests/rust.sh
+	@tests/python.sh
+	@tests/readme.sh
 
 compare: $(server)
 	@differential/short.sh
@@ -94,12 +108,17 @@ differential: $(server)
 bench:
 	@bench/run.sh
 
-install: $(program) $(checker) $(mender) $(library)
+install: $(program) $(checker) $(mender) $(library) $(shared)
 	@install -d '$(DESTDIR)$(PREFIX)/bin' '$(DESTDIR)$(PREFIX)/include' '$(DESTDIR)$(PREFIX)/lib/pkgconfig'
 	@install -m 755 $(program) '$(DESTDIR)$(PREFIX)/bin/pdblist'
 	@install -m 755 $(checker) '$(DESTDIR)$(PREFIX)/bin/pdbmaster'
 	@install -m 755 $(mender) '$(DESTDIR)$(PREFIX)/bin/pdbmend'
-	@install -m 644 include/saltighedda.h '$(DESTDIR)$(PREFIX)/include/saltighedda.h'
+	@install -m 644 include/saltighedda.h include/saltighedda_fields.h '$(DESTDIR)$(PREFIX)/include'
 	@install -m 644 $(library) '$(DESTDIR)$(PREFIX)/lib/libsaltighedda.a'
-	@sed 's|@PREFIX@|$(PREFIX)|' saltighedda.pc.in > '$(DESTDIR)$(PREFIX)/lib/pkgconfig/saltighedda.pc'
+	@if [ -f $(shared) ]; then \
+	    install -m 755 $(shared) '$(DESTDIR)$(PREFIX)/lib/$(notdir $(shared))'; \
+	    ln -sf $(notdir $(shared)) '$(DESTDIR)$(PREFIX)/lib/$(known)'; \
+	    ln -sf $(known) '$(DESTDIR)$(PREFIX)/lib/libsaltighedda.so'; \
+	fi
+	@sed 's|@PREFIX@|$(PREFIX)|; s|@VERSION@|$(version)|' saltighedda.pc.in > '$(DESTDIR)$(PREFIX)/lib/pkgconfig/saltighedda.pc'
 	@[ "$$(uname -m)" = x86_64 ] || echo "install: the programs and the library are for x86-64, and this machine is $$(uname -m)"

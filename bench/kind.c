@@ -1,7 +1,7 @@
 /*
- * How quickly a line's kind is told from C, beside its listing and beside finding the lines alone. See bench/kind.sh, which builds it.
+ * How quickly a line's kind is told from C, beside its record as words, its listing, and finding the lines alone. See bench/kind.sh, which builds it.
  *
- *     kind --once SIDE         one side over standard input, once: walk, kind or list
+ *     kind --once SIDE         one side over standard input, once: walk, kind, read or list
  *     kind [--passes N]        times every side N times, in turn
  *
  * The file is standard input, lines of any kinds with LF. Each side prints a number that hangs on all that it was told.
@@ -18,6 +18,7 @@
 enum { ROOM = 1 << 26, MOST_PASSES = 101 };
 
 static uint8_t remarks[SALTIGHEDDA_REMARKS], out[SALTIGHEDDA_LONGEST];
+static uint64_t fields[SALTIGHEDDA_FIELDS], faults[SALTIGHEDDA_FAULTS];
 
 static uint64_t walk(const uint8_t *line, size_t length, size_t number)
 {
@@ -30,6 +31,14 @@ static uint64_t kind(const uint8_t *line, size_t length, size_t number)
     return saltighedda_kind(line, length, 0) + number;
 }
 
+/* The last coordinate's bits are among the words of an atom. */
+static uint64_t take(const uint8_t *line, size_t length, size_t number)
+{
+    return saltighedda_read(line, length, number, 0, remarks, sizeof remarks, SALTIGHEDDA_ANY, fields, SALTIGHEDDA_FIELDS, faults,
+                            SALTIGHEDDA_FAULTS) +
+           fields[1] + fields[21] + faults[0];
+}
+
 static uint64_t list(const uint8_t *line, size_t length, size_t number)
 {
     return saltighedda_list(line, length, number, 0, remarks, sizeof remarks, out, sizeof out);
@@ -38,7 +47,7 @@ static uint64_t list(const uint8_t *line, size_t length, size_t number)
 static const struct side {
     const char *name;
     uint64_t (*ask)(const uint8_t *, size_t, size_t);
-} sides[] = {{"walk", walk}, {"kind", kind}, {"list", list}};
+} sides[] = {{"walk", walk}, {"kind", kind}, {"read", take}, {"list", list}};
 
 enum { SIDES = sizeof sides / sizeof *sides };
 

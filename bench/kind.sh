@@ -44,8 +44,8 @@ else
             --library-path "$emulator/lib" $program --once $1 2>&1 > $made/kind.log | wc -l
     }
 fi
-echo "instructions a line, over 2,000 lines with no fault; kind and list have those of walk in them"
-for side in walk kind list; do
+echo "instructions a line, over 2,000 lines with no fault; the others have those of walk in them"
+for side in walk kind read list; do
     few=$(instructions $side 500)
     many=$(instructions $side 2500)
     printf '%-6s %8d\n' $side $(((many - few) / 2000))

@@ -103,12 +103,6 @@ static struct saltighedda_slice lend(const char *text, size_t most)
     return slice;
 }
 
-static struct saltighedda_slice lend_one(const char *byte)
-{
-    struct saltighedda_slice slice = {(const uint8_t *)byte, 1};
-    return slice;
-}
-
 static size_t bench_port(const struct atom *atoms, size_t count, char *out)
 {
     for (size_t i = 0; i < count; i++) {
@@ -117,11 +111,11 @@ static size_t bench_port(const struct atom *atoms, size_t count, char *out)
         to.hetero = (uint32_t)from->hetero;
         to.serial = from->serial;
         to.name = lend(from->name, 4);
-        to.alternate = lend_one(&from->alternate);
+        to.alternate = from->alternate;
         to.residue = lend(from->residue, 3);
-        to.chain = lend_one(&from->chain);
+        to.chain = from->chain;
         to.number = from->number;
-        to.insertion = lend_one(&from->insertion);
+        to.insertion = from->insertion;
         to.x = from->x;
         to.y = from->y;
         to.z = from->z;

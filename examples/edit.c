@@ -13,36 +13,35 @@
 #include "fields.h"
 
 /* An atom whose element wasn't read may be a zinc: it is told too. */
-static int may_be_zinc(const char *listing)
+static int may_be_zinc(const struct saltighedda_atom *atom)
 {
-    return is_atom(listing) && (strstr(listing, "\nf76=ZN\n") != NULL || strstr(listing, "\nfault=1,76,2\n") != NULL);
+    return atom->unread.element || (atom->element.length == 2 && memcmp(atom->element.bytes, "ZN", 2) == 0);
 }
 
 /* The atom of a line, moved: its line is printed. Where it may not be, the line is kept. */
-static enum outcome move(const struct line *line, const double vector[3])
+static enum outcome move(const struct line *line, struct saltighedda_atom *atom, const double vector[3])
 {
-    struct saltighedda_atom atom;
-    struct texts texts;
     uint8_t out[SALTIGHEDDA_LINE];
     size_t place, length;
     if (find_unread(line, &place, &length))
-        return keep(line, atom_fields, place, length, "was not read");
-    read_atom(line, &atom, &texts);
-    atom.x += vector[0];
-    atom.y += vector[1];
-    atom.z += vector[2];
-    uint64_t refusal = saltighedda_put_atom(&atom, out, sizeof out);
+        return keep(line, place, length, " was not read");
+    atom->x += vector[0];
+    atom->y += vector[1];
+    atom->z += vector[2];
+    uint64_t refusal = saltighedda_put_atom(atom, out, sizeof out);
     if (refusal != 0)
-        return keep(line, atom_fields, SALTIGHEDDA_PLACE(refusal), SALTIGHEDDA_LENGTH(refusal), "doesn't fit");
+        return keep(line, SALTIGHEDDA_PLACE(refusal), SALTIGHEDDA_LENGTH(refusal), " doesn't fit");
     return print_new(line, out, sizeof out);
 }
 
 /* Other kinds than atoms don't matter here, so that remarks and headers aren't looked into. */
 static enum outcome edit(struct line *line, const double vector[3])
 {
-    if (!list(line, SALTIGHEDDA_ATOMS_ONLY))
-        return keep_refused(line, SALTIGHEDDA_ATOMS_ONLY);
-    return may_be_zinc(line->listing) ? move(line, vector) : COPIED;
+    struct saltighedda_atom atom;
+    uint64_t refusal = take(line, SALTIGHEDDA_ATOMS_ONLY);
+    if (refusal != 0)
+        return keep_refused(line, refusal);
+    return saltighedda_get_atom(&atom, &line->record) && may_be_zinc(&atom) ? move(line, &atom, vector) : COPIED;
 }
 
 static int read_vector(char **words, double vector[3])

@@ -20,131 +20,37 @@
  */
 #include "fields.h"
 
-enum { CELL_GROUP = 55, CELL_Z = 66, MODEL_NUMBER = 6, ROW_DIGIT = 5, MTRIX_SERIAL = 7, MTRIX_GIVEN = 59 };
+/* ---- Its line from the fields that were read, at the places that they were written with; or a refusal. ---- */
 
-/* ---- A function for each family: its line from the fields that were read, or a refusal. ---- */
-
-static uint64_t put_atom(const struct line *line, struct saltighedda_slice places, uint8_t *out)
+static uint64_t put(const struct saltighedda_record *record, uint8_t *out)
 {
     struct saltighedda_atom atom;
-    struct texts texts;
-    read_atom(line, &atom, &texts);
-    atom.places = places;
-    return saltighedda_put_atom(&atom, out, SALTIGHEDDA_LINE);
+    struct saltighedda_anisou anisou;
+    struct saltighedda_cell cell;
+    struct saltighedda_row row;
+    struct saltighedda_model model;
+    if (saltighedda_get_atom(&atom, record)) {
+        atom.places.bytes = atom.decimals;
+        atom.places.length = sizeof atom.decimals;
+        return saltighedda_put_atom(&atom, out, SALTIGHEDDA_LINE);
+    }
+    if (saltighedda_get_cell(&cell, record)) {
+        cell.places.bytes = cell.decimals;
+        cell.places.length = sizeof cell.decimals;
+        return saltighedda_put_cell(&cell, out, SALTIGHEDDA_LINE);
+    }
+    if (saltighedda_get_row(&row, record)) {
+        row.places.bytes = row.decimals;
+        row.places.length = sizeof row.decimals;
+        return saltighedda_put_row(&row, out, SALTIGHEDDA_LINE);
+    }
+    /* Whole numbers have no places. */
+    if (saltighedda_get_anisou(&anisou, record))
+        return saltighedda_put_anisou(&anisou, out, SALTIGHEDDA_LINE);
+    return saltighedda_get_model(&model, record) ? saltighedda_put_model(&model, out, SALTIGHEDDA_LINE) : 0;
 }
 
-/* Its six are whole numbers, for which there are no places. The other fields are where an atom has them. */
-static uint64_t put_anisou(const struct line *line, struct saltighedda_slice places, uint8_t *out)
-{
-    const char *listing = line->listing;
-    struct saltighedda_atom atom;
-    struct texts texts;
-    (void)places;
-    read_atom(line, &atom, &texts);
-    struct saltighedda_anisou anisou = {
-        .serial = atom.serial,
-        .name = atom.name,
-        .alternate = atom.alternate,
-        .residue = atom.residue,
-        .chain = atom.chain,
-        .number = atom.number,
-        .insertion = atom.insertion,
-        .u11 = read_real(listing, 28),
-        .u22 = read_real(listing, 35),
-        .u33 = read_real(listing, 42),
-        .u12 = read_real(listing, 49),
-        .u13 = read_real(listing, 56),
-        .u23 = read_real(listing, 63),
-        .segment = atom.segment,
-        .element = atom.element,
-        .charge = atom.charge,
-    };
-    return saltighedda_put_anisou(&anisou, out, SALTIGHEDDA_LINE);
-}
-
-static uint64_t put_cell(const struct line *line, struct saltighedda_slice places, uint8_t *out)
-{
-    const char *listing = line->listing;
-    struct text group;
-    struct saltighedda_cell cell = {
-        .a = read_real(listing, 6),
-        .b = read_real(listing, 15),
-        .c = read_real(listing, 24),
-        .alpha = read_real(listing, 33),
-        .beta = read_real(listing, 40),
-        .gamma = read_real(listing, 47),
-        .group = read_text(listing, CELL_GROUP, &group),
-        .z = read_unsigned(listing, CELL_Z),
-        .places = places,
-    };
-    return saltighedda_put_cell(&cell, out, SALTIGHEDDA_LINE);
-}
-
-static uint64_t put_row(const struct line *line, struct saltighedda_slice places, uint8_t *out)
-{
-    const char *listing = line->listing;
-    struct saltighedda_row row = {
-        .family = line->bytes[0] == 'S' ? 0 : line->bytes[0] == 'O' ? 1 : 2,
-        .row = (uint64_t)(line->bytes[ROW_DIGIT] - '1'),
-        .serial = read_unsigned(listing, MTRIX_SERIAL),
-        .a = read_real(listing, 10),
-        .b = read_real(listing, 20),
-        .c = read_real(listing, 30),
-        .d = read_real(listing, 45),
-        .given = (uint32_t)read_unsigned(listing, MTRIX_GIVEN),
-        .places = places,
-    };
-    return saltighedda_put_row(&row, out, SALTIGHEDDA_LINE);
-}
-
-static uint64_t put_model(const struct line *line, struct saltighedda_slice places, uint8_t *out)
-{
-    (void)places;
-    return saltighedda_write_model(read_unsigned(line->listing, MODEL_NUMBER), out, SALTIGHEDDA_LINE);
-}
-
-/* ---- The kinds, with the columns that are read. ---- */
-
-static const struct field anisou_fields[] = {
-    {SERIAL, 5, "the serial number"},
-    {NAME, 4, "the atom's name"},
-    {ALTERNATE, 1, "the alternate location"},
-    {RESIDUE, 3, "the residue's name"},
-    {CHAIN, 1, "the chain"},
-    {NUMBER, 4, "the residue's number"},
-    {INSERTION, 1, "the insertion code"},
-    {28, 42, "a temperature factor"},
-    {SEGMENT, 4, "the segment"},
-    {ELEMENT, 2, "the element"},
-    {CHARGE, 2, "the charge"},
-    {0, 0, NULL},
-};
-
-static const struct field cell_fields[] = {
-    {6, 27, "a length"}, {33, 21, "an angle"}, {CELL_GROUP, 11, "the space group"}, {CELL_Z, 14, "Z"}, {0, 0, NULL},
-};
-
-static const struct field row_fields[] = {{10, 30, "a factor"}, {45, 10, "the shift"}, {0, 0, NULL}};
-
-static const struct field mtrix_fields[] = {
-    {MTRIX_SERIAL, 3, "the serial number"}, {10, 30, "a factor"}, {45, 10, "the shift"}, {MTRIX_GIVEN, 1, "the mark"}, {0, 0, NULL},
-};
-
-static const struct field model_fields[] = {{MODEL_NUMBER, 74, "the number"}, {0, 0, NULL}};
-
-struct kind {
-    const char *name;
-    const struct field *fields;
-    uint64_t (*put)(const struct line *line, struct saltighedda_slice places, uint8_t *out);
-};
-
-static const struct kind kinds[] = {
-    {"ATOM", atom_fields, put_atom},     {"HETATM", atom_fields, put_atom},   {"ANISOU", anisou_fields, put_anisou},
-    {"CRYST1", cell_fields, put_cell},   {"SCALE1", row_fields, put_row},     {"SCALE2", row_fields, put_row},
-    {"SCALE3", row_fields, put_row},     {"ORIGX1", row_fields, put_row},     {"ORIGX2", row_fields, put_row},
-    {"ORIGX3", row_fields, put_row},     {"MTRIX1", mtrix_fields, put_row},   {"MTRIX2", mtrix_fields, put_row},
-    {"MTRIX3", mtrix_fields, put_row},   {"MODEL", model_fields, put_model},
-};
+/* ---- The kinds that are written. ---- */
 
 static int begins(const struct line *line, const char *name)
 {
@@ -152,18 +58,18 @@ static int begins(const struct line *line, const char *name)
     return line->length >= length && memcmp(line->bytes, name, length) == 0;
 }
 
-/* By the line's bytes, so that a line that is refused has a kind too. */
-static const struct kind *find_kind(const struct line *line)
+/* By the line's bytes, so that a line that is refused has a kind too; EMPTY if it is none that is written. */
+static uint64_t find_kind(const struct line *line)
 {
-    for (size_t i = 0; i < sizeof kinds / sizeof *kinds; i++)
-        if (begins(line, kinds[i].name))
-            return &kinds[i];
-    return NULL;
+    for (uint64_t kind = SALTIGHEDDA_ATOM; kind <= SALTIGHEDDA_MODEL; kind++)
+        if (begins(line, saltighedda_kind_name(kind)))
+            return kind;
+    return SALTIGHEDDA_EMPTY;
 }
 
 /*
  * TER, ENDMDL or END as saltighedda_write_bare counts them, if the line is this name and blanks; else 3, which it refuses. An
- * ENDMDL without blanks is listed as END, so the listing isn't asked.
+ * ENDMDL without blanks is read as END, so its kind isn't asked.
  */
 static uint32_t find_bare(const struct line *line)
 {
@@ -185,7 +91,8 @@ static uint32_t find_bare(const struct line *line)
 /* Two more are unread without a fault: a short CRYST1 has no Z, and gets 1; MTRIX's mark is taken for none if it isn't `1`. */
 static int find_silent(const struct line *line, size_t *place, size_t *length)
 {
-    if (is_record(line->listing, "CRYST1")) {
+    enum { CELL_Z = 66, MTRIX_GIVEN = 59 };
+    if (line->record.fields[0] == SALTIGHEDDA_CRYST1) {
         *place = CELL_Z;
         *length = 4;
         return line->length <= CELL_Z;
@@ -198,10 +105,10 @@ static int find_silent(const struct line *line, size_t *place, size_t *length)
 }
 
 /* The first column behind the name that isn't blank and in no field; the line's length if there is none. */
-static size_t find_outside(const struct line *line, const struct field *fields)
+static size_t find_outside(const struct line *line)
 {
     size_t at = 6;
-    while (at < line->length && (line->bytes[at] == ' ' || field_at(fields, at) != NULL))
+    while (at < line->length && (line->bytes[at] == ' ' || saltighedda_field_at(line->record.fields[0], at) != NULL))
         at++;
     return at;
 }
@@ -217,21 +124,18 @@ static enum outcome print_as_long(const struct line *line, const uint8_t *out)
     return print_new(line, line->bytes + length, line->length - length);
 }
 
-static enum outcome write_fields(const struct line *line, const struct kind *kind)
+static enum outcome write_fields(const struct line *line)
 {
-    uint8_t out[SALTIGHEDDA_LINE], places[SALTIGHEDDA_PLACES];
+    uint8_t out[SALTIGHEDDA_LINE];
     size_t place, length;
     if (find_unread(line, &place, &length) || find_silent(line, &place, &length))
-        return keep(line, kind->fields, place, length, "was not read");
-    place = find_outside(line, kind->fields);
+        return keep(line, place, length, " was not read");
+    place = find_outside(line);
     if (place < line->length)
-        return keep(line, kind->fields, place, 1, "is in no field");
-    length = saltighedda_places(line->bytes, line->length, line->number, 0, every_remark(), SALTIGHEDDA_REMARKS, places,
-                                sizeof places);
-    struct saltighedda_slice own = {places, length};
-    uint64_t refusal = kind->put(line, own, out);
+        return keep(line, place, 1, " is in no field");
+    uint64_t refusal = put(&line->record, out);
     if (refusal != 0)
-        return keep(line, kind->fields, SALTIGHEDDA_PLACE(refusal), SALTIGHEDDA_LENGTH(refusal), "doesn't fit as it was written");
+        return keep(line, SALTIGHEDDA_PLACE(refusal), SALTIGHEDDA_LENGTH(refusal), " doesn't fit as it was written");
     return print_as_long(line, out);
 }
 
@@ -240,12 +144,13 @@ static enum outcome rewrite(struct line *line)
     uint8_t out[SALTIGHEDDA_LINE];
     if (saltighedda_write_bare(find_bare(line), out, sizeof out) == 0)
         return print_as_long(line, out);
-    const struct kind *kind = find_kind(line);
-    if (kind == NULL)
+    uint64_t kind = find_kind(line);
+    if (kind == SALTIGHEDDA_EMPTY)
         return COPIED;
-    if (!list(line, 0))
-        return keep_refused(line, 0);
-    return is_record(line->listing, kind->name) ? write_fields(line, kind) : COPIED;
+    uint64_t refusal = take(line, 0);
+    if (refusal != 0)
+        return keep_refused(line, refusal);
+    return line->record.fields[0] == kind ? write_fields(line) : COPIED;
 }
 
 int main(int argc, char **argv)

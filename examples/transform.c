@@ -17,38 +17,25 @@
 
 /* ---- The matrix. ---- */
 
-enum mtrix { MTRIX_SERIAL = 7, MTRIX_A = 10, MTRIX_B = 20, MTRIX_C = 30, MTRIX_D = 45 };
-
 struct matrix {
     double rows[SALTIGHEDDA_ROWS];
     uint8_t set[SALTIGHEDDA_SET];
 };
 
-/* The row of an MTRIX line, from 0; 3 if the listing is of something else. */
-static uint64_t row_number(const char *listing)
-{
-    static const char *const names[] = {"MTRIX1", "MTRIX2", "MTRIX3"};
-    uint64_t row = 0;
-    while (row < 3 && !is_record(listing, names[row]))
-        row++;
-    return row;
-}
-
 /* Puts the row of a line into the matrix, if it is one of that serial number. Returns how many rows had to be left out. */
 static size_t collect(struct line *line, uint64_t serial, struct matrix *matrix)
 {
+    enum { MTRIX = 2 };
+    struct saltighedda_row row;
     size_t place, length;
-    const char *listing = line->listing;
-    if (!list(line, 0) || row_number(listing) > 2)
+    if (take(line, 0) != 0 || !saltighedda_get_row(&row, &line->record) || row.family != MTRIX)
         return 0;
     if (find_unread(line, &place, &length)) {
-        tell(line, place, length, "a number", "was not read", "the row is left out");
+        tell(line, place, length, saltighedda_field_name(line->record.fields[0], place), " was not read", "the row is left out");
         return 1;
     }
-    if (read_unsigned(listing, MTRIX_SERIAL) == serial)
-        saltighedda_matrix_row(row_number(listing), read_real(listing, MTRIX_A), read_real(listing, MTRIX_B),
-                               read_real(listing, MTRIX_C), read_real(listing, MTRIX_D), matrix->rows, SALTIGHEDDA_ROWS,
-                               matrix->set, SALTIGHEDDA_SET);
+    if (row.serial == serial)
+        saltighedda_matrix_row(row.row, row.a, row.b, row.c, row.d, matrix->rows, SALTIGHEDDA_ROWS, matrix->set, SALTIGHEDDA_SET);
     return 0;
 }
 
@@ -61,33 +48,32 @@ static int apply(const struct matrix *matrix, double x, double y, double z, doub
 /* ---- The atoms. ---- */
 
 /* The atom of a line, moved: its line is printed. Where it may not be, the line is kept. */
-static enum outcome move(const struct line *line, const struct matrix *matrix)
+static enum outcome move(const struct line *line, struct saltighedda_atom *atom, const struct matrix *matrix)
 {
-    struct saltighedda_atom atom;
-    struct texts texts;
     uint8_t out[SALTIGHEDDA_LINE];
     size_t place, length;
     double to[3];
     if (find_unread(line, &place, &length))
-        return keep(line, atom_fields, place, length, "was not read");
-    read_atom(line, &atom, &texts);
-    if (!apply(matrix, atom.x, atom.y, atom.z, to))
+        return keep(line, place, length, " was not read");
+    if (!apply(matrix, atom->x, atom->y, atom->z, to))
         return KEPT;
-    atom.x = to[0];
-    atom.y = to[1];
-    atom.z = to[2];
-    uint64_t refusal = saltighedda_put_atom(&atom, out, sizeof out);
+    atom->x = to[0];
+    atom->y = to[1];
+    atom->z = to[2];
+    uint64_t refusal = saltighedda_put_atom(atom, out, sizeof out);
     if (refusal != 0)
-        return keep(line, atom_fields, SALTIGHEDDA_PLACE(refusal), SALTIGHEDDA_LENGTH(refusal), "doesn't fit");
+        return keep(line, SALTIGHEDDA_PLACE(refusal), SALTIGHEDDA_LENGTH(refusal), " doesn't fit");
     return print_new(line, out, sizeof out);
 }
 
 /* Other kinds than atoms don't matter here, so that remarks and headers aren't looked into. */
 static enum outcome transform(struct line *line, const struct matrix *matrix)
 {
-    if (!list(line, SALTIGHEDDA_ATOMS_ONLY))
-        return keep_refused(line, SALTIGHEDDA_ATOMS_ONLY);
-    return is_atom(line->listing) ? move(line, matrix) : COPIED;
+    struct saltighedda_atom atom;
+    uint64_t refusal = take(line, SALTIGHEDDA_ATOMS_ONLY);
+    if (refusal != 0)
+        return keep_refused(line, refusal);
+    return saltighedda_get_atom(&atom, &line->record) ? move(line, &atom, matrix) : COPIED;
 }
 
 int main(int argc, char **argv)

@@ -1,12 +1,12 @@
 /*
- * saltighedda.h: a line of a PDB file, listed, with what could not be read and how many decimals were written; its kind alone; a
- * record, written as a line; a position, moved by the rows of a transformation; a file, held against its MASTER line; and a damaged
- * line, mended.
+ * saltighedda.h: a line of a PDB file, read into words or listed, with what could not be read and how many decimals were written; its
+ * kind alone; a record, written as a line; a position, moved by the rows of a transformation; a file, held against its MASTER line; and
+ * a damaged line, mended. Below the entries stands a struct for each family of records, which is read and written by name.
  *
  * Every entry takes any bytes and any numbers; nothing has to be checked beforehand. A host has one duty: a buffer is a pointer
- * and the number of bytes that are there, the output's bytes are in no other buffer of the call, and nobody else writes to them
- * meanwhile. The pointer of a buffer of 0 bytes may be NULL. No entry keeps a pointer, allocates memory or has a state, so calls
- * from several threads at once are fine if each lends an output of its own.
+ * and the number of bytes, words or doubles that are there, an output's bytes are in no other buffer of the call, and nobody else
+ * writes to them meanwhile. The pointer of a buffer of 0 bytes may be NULL. No entry keeps a pointer, allocates memory or has a
+ * state, so calls from several threads at once are fine if each lends an output of its own.
  *
  * A listing is rows of bytes below 127, each ended by '\n':
  *
@@ -34,8 +34,11 @@
 #ifndef SALTIGHEDDA_H
 #define SALTIGHEDDA_H
 
+#include "saltighedda_fields.h"
+
 #include <stddef.h>
 #include <stdint.h>
+#include <string.h>
 
 #ifdef __cplusplus
 extern "C" {
@@ -108,29 +111,56 @@ size_t saltighedda_list_length(const uint8_t *line, size_t line_len, size_t numb
  */
 uint64_t saltighedda_kind(const uint8_t *line, size_t line_len, uint32_t options);
 
-/* The kinds by their numbers. */
-enum {
-    SALTIGHEDDA_EMPTY = 0, SALTIGHEDDA_HEADER = 1, SALTIGHEDDA_REMARK = 2, SALTIGHEDDA_ATOM = 3,
-    SALTIGHEDDA_HETATM = 4, SALTIGHEDDA_ANISOU = 5, SALTIGHEDDA_CRYST1 = 6, SALTIGHEDDA_SCALE1 = 7,
-    SALTIGHEDDA_SCALE2 = 8, SALTIGHEDDA_SCALE3 = 9, SALTIGHEDDA_ORIGX1 = 10, SALTIGHEDDA_ORIGX2 = 11,
-    SALTIGHEDDA_ORIGX3 = 12, SALTIGHEDDA_MTRIX1 = 13, SALTIGHEDDA_MTRIX2 = 14, SALTIGHEDDA_MTRIX3 = 15,
-    SALTIGHEDDA_MODEL = 16, SALTIGHEDDA_MASTER = 17, SALTIGHEDDA_DBREF = 18, SALTIGHEDDA_DBREF1 = 19,
-    SALTIGHEDDA_DBREF2 = 20, SALTIGHEDDA_SEQRES = 21, SALTIGHEDDA_SEQADV = 22, SALTIGHEDDA_MODRES = 23,
-    SALTIGHEDDA_SSBOND = 24, SALTIGHEDDA_ENDMDL = 25, SALTIGHEDDA_TER = 26, SALTIGHEDDA_END = 27,
-    SALTIGHEDDA_KINDS = 28
-};
+/* The kinds by their numbers: SALTIGHEDDA_EMPTY is 0, SALTIGHEDDA_HEADER 1, and so on down the table of saltighedda_fields.h. */
+#define SALTIGHEDDA_NUMBERED(number, name, list) SALTIGHEDDA_##name = number,
+enum { SALTIGHEDDA_KIND_TABLE(SALTIGHEDDA_NUMBERED) SALTIGHEDDA_KINDS = 28 };
 
 /* The name of a kind as a listing has it, and NULL for any other number, a refusal too. */
+#define SALTIGHEDDA_NAMED(number, name, list) #name,
 static inline const char *saltighedda_kind_name(uint64_t kind)
 {
-    static const char *const names[SALTIGHEDDA_KINDS] = {
-        "EMPTY", "HEADER", "REMARK", "ATOM", "HETATM", "ANISOU", "CRYST1",
-        "SCALE1", "SCALE2", "SCALE3", "ORIGX1", "ORIGX2", "ORIGX3", "MTRIX1",
-        "MTRIX2", "MTRIX3", "MODEL", "MASTER", "DBREF", "DBREF1", "DBREF2",
-        "SEQRES", "SEQADV", "MODRES", "SSBOND", "ENDMDL", "TER", "END",
-    };
+    static const char *const names[SALTIGHEDDA_KINDS] = {SALTIGHEDDA_KIND_TABLE(SALTIGHEDDA_NAMED)};
     return kind < SALTIGHEDDA_KINDS ? names[kind] : NULL;
 }
+
+/* Any kind will do. */
+#define SALTIGHEDDA_ANY UINT32_C(0xFFFFFFFF)
+
+/* How many words have room for the fields of every line, and for its faults. */
+#define SALTIGHEDDA_FIELDS 34
+#define SALTIGHEDDA_FAULTS 31
+
+/*
+ * Reads a line, without its line end, into words: what a listing says, to be taken as it is. `kind` is the kind that the line has to
+ * be, or SALTIGHEDDA_ANY. The answer is 0, and then
+ *
+ *     fields[0]  the kind's number
+ *     fields[1]  how many fields there are; then two words for each, those that are present by ascending column, as in the listing:
+ *                column + sort * 2^16 + places * 2^24, places being 0 but for the reals that saltighedda_places tells of; and the value
+ *     faults[0]  how many faults there are; then two words for each: `number`; and
+ *                the line's kind + fault * 2^8 + sort * 2^16 + place * 2^32 + length * 2^48, sort being for fault 2 what the columns
+ *                should have held, 1 unsigned, 2 signed, 3 a real, and else 0
+ *
+ * and what is behind them stays as it was. The sorts of a field and its value:
+ *
+ *     0  unsigned
+ *     1  signed, in two's complement
+ *     2  a real, the bits of its double
+ *     3  a text, place * 2^32 + length: a part of the line
+ *     4  a character, the byte, or 256 where the line doesn't reach it
+ *     5  a mark, 1 or 0
+ *
+ * Else it is a refusal as one number, and all that was lent is as it was: 1 to 6 as above, with the same place and length;
+ *
+ *     15  the line is of another kind than `kind`; place and length are 0; tested behind 3
+ *     8   `fields` has under SALTIGHEDDA_FIELDS words, or `faults` under SALTIGHEDDA_FAULTS; the place is 0 and the length how many
+ *         are needed; tested last, for `fields` first
+ *
+ * saltighedda_get and the structs at the end of this header stand above it.
+ */
+uint64_t saltighedda_read(const uint8_t *line, size_t line_len, size_t number, uint32_t options, const uint8_t *remarks,
+                          size_t remarks_len, uint32_t kind, uint64_t *fields, size_t fields_len, uint64_t *faults,
+                          size_t faults_len);
 
 /* An output of so many bytes has room for the places of every record. */
 #define SALTIGHEDDA_PLACES 6
@@ -307,8 +337,21 @@ uint64_t saltighedda_check_master_length(const uint8_t *file, size_t file_len);
 uint64_t saltighedda_mend(const uint8_t *line, size_t line_len, uint8_t *out, size_t out_len, uint64_t *changes, size_t changes_len);
 
 /*
- * The same by name: a struct for each family, and a function that hands its members over. A member that an initializer leaves out
- * is 0 or a text without bytes. The columns count from 0, and a..b excludes b.
+ * The same by name. A line is taken with saltighedda_get, and its record by the function of its family:
+ *
+ *     struct saltighedda_record line;
+ *     struct saltighedda_atom atom;
+ *     if (saltighedda_get(&line, bytes, length, number, 0) == 0 && saltighedda_get_atom(&atom, &line) && !atom.unread.x)
+ *         ..atom.x is what the file says
+ *
+ * A struct serves reading and writing. To write, its members are filled in by name; one that an initializer leaves out is 0 or a text
+ * without bytes. The columns count from 0, and a..b excludes b. A member of one character is 0 if it is absent. A text that was read
+ * is a part of the line that was handed in, and lives as long. These members are for reading, and have no effect when a record is
+ * written:
+ *
+ *     unread    has a member for each field, 1 if its value isn't the line's but was put there: a fault of kind 1 to 4 names it. A NUL
+ *               in a column of one character can't be told from an absent one, and counts as unread.
+ *     decimals  how many digits stood behind the point of each real. Lent as `places`, they write the record as it was written.
  */
 
 /* Bytes that are lent: a text, or places. */
@@ -317,85 +360,446 @@ struct saltighedda_slice {
     size_t length;
 };
 
+/* A line and what was read of it. */
+struct saltighedda_record {
+    const uint8_t *line;
+    size_t length;
+    uint64_t fields[SALTIGHEDDA_FIELDS];
+    uint64_t faults[SALTIGHEDDA_FAULTS];
+};
+
+/* A table in which every remark number is valid. */
+#define SALTIGHEDDA_TENFOLD(n) n, n, n, n, n, n, n, n, n, n
+#define SALTIGHEDDA_TEN        SALTIGHEDDA_TENFOLD(1)
+#define SALTIGHEDDA_HUNDRED    SALTIGHEDDA_TENFOLD(SALTIGHEDDA_TEN)
+static inline const uint8_t *saltighedda_every_remark(void)
+{
+    static const uint8_t remarks[SALTIGHEDDA_REMARKS] = {SALTIGHEDDA_TENFOLD(SALTIGHEDDA_HUNDRED)};
+    return remarks;
+}
+
+/*
+ * Reads a line of any kind, with every remark number valid; 0 or a refusal. `number` is the line's, from 1. A line that is refused leaves
+ * an EMPTY record without fields and faults, so that nothing of an earlier line is taken for its own.
+ */
+static inline uint64_t saltighedda_get(struct saltighedda_record *record, const void *line, size_t line_len, size_t number,
+                                       uint32_t options)
+{
+    record->line = (const uint8_t *)line;
+    record->length = line_len;
+    record->fields[0] = record->fields[1] = record->faults[0] = 0;
+    return saltighedda_read(record->line, line_len, number, options, saltighedda_every_remark(), SALTIGHEDDA_REMARKS,
+                            SALTIGHEDDA_ANY, record->fields, SALTIGHEDDA_FIELDS, record->faults, SALTIGHEDDA_FAULTS);
+}
+
+/* ---- What a word says. ---- */
+
+static inline double saltighedda_real(uint64_t word)
+{
+    double real;
+    memcpy(&real, &word, sizeof real);
+    return real;
+}
+
+static inline struct saltighedda_slice saltighedda_text(const struct saltighedda_record *record, uint64_t word)
+{
+    struct saltighedda_slice text = {record->line + (word >> 32), (size_t)(word & 0xFFFFFFFF)};
+    return text;
+}
+
+/* Of the first of a field's two words. */
+#define SALTIGHEDDA_COLUMN(word)   ((uint32_t)((word) & 0xFFFF))
+#define SALTIGHEDDA_SORT(word)     ((uint32_t)((word) >> 16 & 0xFF))
+#define SALTIGHEDDA_DECIMALS(word) ((uint32_t)((word) >> 24 & 0xFF))
+
+struct saltighedda_fault {
+    uint64_t line;          /* its number */
+    uint32_t kind;          /* the line's */
+    uint32_t fault;         /* 1 to 5 */
+    uint32_t sort;          /* for 2 what the columns should have held: 1 unsigned, 2 signed, 3 a real; else 0 */
+    uint32_t place, length; /* the columns */
+};
+
+/* The n-th fault of a record, from 0; record.faults[0] says how many there are. */
+static inline struct saltighedda_fault saltighedda_fault_at(const struct saltighedda_record *record, size_t n)
+{
+    uint64_t word = record->faults[2 + 2 * n];
+    struct saltighedda_fault fault = {record->faults[1 + 2 * n],      (uint32_t)(word & 0xFF),         (uint32_t)(word >> 8 & 0xFF),
+                                      (uint32_t)(word >> 16 & 0xFFFF), (uint32_t)(word >> 32 & 0xFFFF), (uint32_t)(word >> 48)};
+    return fault;
+}
+
+/* ---- What things are called, by the tables of saltighedda_fields.h. ---- */
+
+struct saltighedda_field {
+    char sort[2];        /* its letter */
+    uint16_t first, end; /* its columns; the second is the one behind its last */
+    const char *name;    /* for people */
+};
+
+/* The fields of a kind by ascending column, behind them one without a name; none for any other number. */
+#define SALTIGHEDDA_ENTRY(sort, member, first, end, words) {#sort, first, end, words},
+static inline const struct saltighedda_field *saltighedda_fields_of(uint64_t kind)
+{
+#define SALTIGHEDDA_LISTED(list) \
+    static const struct saltighedda_field list##_table[] = {SALTIGHEDDA_##list##_FIELDS(SALTIGHEDDA_ENTRY){"", 0, 0, NULL}};
+    SALTIGHEDDA_LISTED(NO)
+    SALTIGHEDDA_LISTED(HEADER)
+    SALTIGHEDDA_LISTED(REMARK)
+    SALTIGHEDDA_LISTED(ATOM)
+    SALTIGHEDDA_LISTED(ANISOU)
+    SALTIGHEDDA_LISTED(CELL)
+    SALTIGHEDDA_LISTED(ROW)
+    SALTIGHEDDA_LISTED(MTRIX)
+    SALTIGHEDDA_LISTED(MODEL)
+    SALTIGHEDDA_LISTED(MASTER)
+    SALTIGHEDDA_LISTED(SEQRES)
+    SALTIGHEDDA_LISTED(DBREF)
+    SALTIGHEDDA_LISTED(DBREF1)
+    SALTIGHEDDA_LISTED(DBREF2)
+    SALTIGHEDDA_LISTED(SEQADV)
+    SALTIGHEDDA_LISTED(MODRES)
+    SALTIGHEDDA_LISTED(SSBOND)
+#undef SALTIGHEDDA_LISTED
+#define SALTIGHEDDA_TABLE(number, name, list) list##_table,
+    static const struct saltighedda_field *const tables[SALTIGHEDDA_KINDS] = {SALTIGHEDDA_KIND_TABLE(SALTIGHEDDA_TABLE)};
+#undef SALTIGHEDDA_TABLE
+    return kind < SALTIGHEDDA_KINDS ? tables[kind] : NO_table;
+}
+
+/* The field of a kind that a column belongs to, or NULL. */
+static inline const struct saltighedda_field *saltighedda_field_at(uint64_t kind, size_t column)
+{
+    const struct saltighedda_field *field = saltighedda_fields_of(kind);
+    for (; field->name != NULL; field++)
+        if (column >= field->first && column < field->end)
+            return field;
+    return NULL;
+}
+
+/* Its name; "something" for columns of no field. */
+static inline const char *saltighedda_field_name(uint64_t kind, size_t column)
+{
+    const struct saltighedda_field *field = saltighedda_field_at(kind, column);
+    return field != NULL ? field->name : "something";
+}
+
+/* The two words of the field that a column belongs to, or NULL if there is none. */
+static inline const uint64_t *saltighedda_words_at(const struct saltighedda_record *record, size_t column)
+{
+    const uint64_t kind = record->fields[0], *words = NULL;
+    for (uint64_t n = 0; n < record->fields[1] && SALTIGHEDDA_COLUMN(record->fields[2 + 2 * n]) <= column; n++)
+        words = record->fields + 2 + 2 * n;
+    return words != NULL && saltighedda_field_at(kind, SALTIGHEDDA_COLUMN(words[0])) == saltighedda_field_at(kind, column) ? words
+                                                                                                                          : NULL;
+}
+
+/* A fault or a refusal in words, by its number. */
+#define SALTIGHEDDA_WORDS(number, words) case number: return words;
+static inline const char *saltighedda_fault_words(uint32_t fault)
+{
+    switch (fault) {
+        SALTIGHEDDA_FAULT_TABLE(SALTIGHEDDA_WORDS)
+        default: return "no fault";
+    }
+}
+
+static inline const char *saltighedda_refusal_words(uint32_t refusal)
+{
+    switch (refusal) {
+        SALTIGHEDDA_REFUSAL_TABLE(SALTIGHEDDA_WORDS)
+        default: return "no refusal";
+    }
+}
+
+/* ---- A struct for each family. ---- */
+
+#define SALTIGHEDDA_UNREAD(sort, member, first, end, words) uint8_t member;
+
 struct saltighedda_atom {
-    uint32_t hetero;                    /* 0..6 */
-    uint64_t serial;                    /* 6..11 */
-    struct saltighedda_slice name;      /* 12..16, all four bytes */
-    struct saltighedda_slice alternate; /* 16..17 */
-    struct saltighedda_slice residue;   /* 17..20 */
-    struct saltighedda_slice chain;     /* 21..22 */
-    int64_t number;                     /* 22..26 */
-    struct saltighedda_slice insertion; /* 26..27 */
-    double x, y, z;                     /* 30..38, 38..46, 46..54 */
-    double occupancy;                   /* 54..60 */
-    double bfactor;                     /* 60..66 */
-    struct saltighedda_slice segment;   /* 72..76, at the left */
-    struct saltighedda_slice element;   /* 76..78 */
-    int64_t charge;                     /* 78..80 */
-    struct saltighedda_slice places;
+    uint32_t hetero;                       /* 0..6: 0 is ATOM, else HETATM */
+    uint64_t serial;                       /* 6..11 */
+    struct saltighedda_slice name;         /* 12..16, all four bytes: ` CA ` is carbon and `CA  ` calcium */
+    char alternate;                        /* 16..17 */
+    struct saltighedda_slice residue;      /* 17..20 */
+    char chain;                            /* 21..22 */
+    int64_t number;                        /* 22..26 */
+    char insertion;                        /* 26..27 */
+    double x, y, z;                        /* 30..38, 38..46, 46..54 */
+    double occupancy;                      /* 54..60 */
+    double bfactor;                        /* 60..66 */
+    struct saltighedda_slice segment;      /* 72..76, at the left */
+    struct saltighedda_slice element;      /* 76..78 */
+    int64_t charge;                        /* 78..80 */
+    struct saltighedda_slice places;       /* for writing */
+    struct saltighedda_slice trimmed_name; /* for reading: the name without its blanks */
+    uint8_t decimals[5];
+    struct { SALTIGHEDDA_ATOM_FIELDS(SALTIGHEDDA_UNREAD) } unread;
 };
 
 struct saltighedda_anisou {
-    uint64_t serial;                    /* 6..11 */
-    struct saltighedda_slice name;      /* 12..16, all four bytes */
-    struct saltighedda_slice alternate; /* 16..17 */
-    struct saltighedda_slice residue;   /* 17..20 */
-    struct saltighedda_slice chain;     /* 21..22 */
-    int64_t number;                     /* 22..26 */
-    struct saltighedda_slice insertion; /* 26..27 */
-    double u11, u22, u33;               /* 28..35, 35..42, 42..49 */
-    double u12, u13, u23;               /* 49..56, 56..63, 63..70 */
-    struct saltighedda_slice segment;   /* 72..76, at the left */
-    struct saltighedda_slice element;   /* 76..78 */
-    int64_t charge;                     /* 78..80 */
+    uint64_t serial;                       /* 6..11 */
+    struct saltighedda_slice name;         /* 12..16, all four bytes */
+    char alternate;                        /* 16..17 */
+    struct saltighedda_slice residue;      /* 17..20 */
+    char chain;                            /* 21..22 */
+    int64_t number;                        /* 22..26 */
+    char insertion;                        /* 26..27 */
+    double u11, u22, u33;                  /* 28..35, 35..42, 42..49 */
+    double u12, u13, u23;                  /* 49..56, 56..63, 63..70 */
+    struct saltighedda_slice segment;      /* 72..76, at the left */
+    struct saltighedda_slice element;      /* 76..78 */
+    int64_t charge;                        /* 78..80 */
+    struct saltighedda_slice trimmed_name; /* for reading */
+    struct { SALTIGHEDDA_ANISOU_FIELDS(SALTIGHEDDA_UNREAD) } unread;
 };
 
 struct saltighedda_cell {
-    double a, b, c;                 /* 6..15, 15..24, 24..33 */
-    double alpha, beta, gamma;      /* 33..40, 40..47, 47..54 */
-    struct saltighedda_slice group; /* 55..66, at the left */
-    uint64_t z;                     /* 66..70 */
-    struct saltighedda_slice places;
+    double a, b, c;                  /* 6..15, 15..24, 24..33 */
+    double alpha, beta, gamma;       /* 33..40, 40..47, 47..54 */
+    struct saltighedda_slice group;  /* 55..66, at the left */
+    uint64_t z;                      /* 66..70; read from 66 on, and 1 in a line of 66 bytes or less */
+    struct saltighedda_slice places; /* for writing */
+    uint8_t decimals[6];
+    struct { SALTIGHEDDA_CELL_FIELDS(SALTIGHEDDA_UNREAD) } unread;
 };
 
 struct saltighedda_row {
-    uint32_t family; /* 0..5: 0 SCALE, 1 ORIGX, 2 MTRIX */
-    uint64_t row;    /* 5..6: 0 to 2, which go out as 1 to 3 */
-    uint64_t serial; /* 7..10, of MTRIX alone */
-    double a, b, c;  /* 10..20, 20..30, 30..40 */
-    double d;        /* 45..55 */
-    uint32_t given;  /* 59..60, of MTRIX alone */
-    struct saltighedda_slice places;
+    uint32_t family;                 /* 0..5: 0 SCALE, 1 ORIGX, 2 MTRIX */
+    uint64_t row;                    /* 5..6: 0 to 2, which go out as 1 to 3 */
+    uint64_t serial;                 /* 7..10, of MTRIX alone */
+    double a, b, c;                  /* 10..20, 20..30, 30..40 */
+    double d;                        /* 45..55 */
+    uint32_t given;                  /* 59..60, of MTRIX alone */
+    struct saltighedda_slice places; /* for writing */
+    uint8_t decimals[4];
+    struct { SALTIGHEDDA_MTRIX_FIELDS(SALTIGHEDDA_UNREAD) } unread;
 };
+
+struct saltighedda_model {
+    uint64_t number; /* from 6 to the end of the line; in wwPDB mode, and when it is written, 10..14 */
+    struct { SALTIGHEDDA_MODEL_FIELDS(SALTIGHEDDA_UNREAD) } unread;
+};
+
+/* The families from here on are read alone. */
+
+struct saltighedda_header {
+    struct saltighedda_slice classification, date, code; /* 10..50, 50..59, 62..66, blanks and all */
+    struct { SALTIGHEDDA_HEADER_FIELDS(SALTIGHEDDA_UNREAD) } unread;
+};
+
+struct saltighedda_remark {
+    uint64_t number;               /* 7..10 */
+    struct saltighedda_slice text; /* from 11, without the white space at its end */
+    struct { SALTIGHEDDA_REMARK_FIELDS(SALTIGHEDDA_UNREAD) } unread;
+};
+
+struct saltighedda_master {
+    uint64_t remark, empty, het, helix, sheet, turn, site, xform, coord, ter, connect, seq; /* twelve of five columns from 10 */
+    struct { SALTIGHEDDA_MASTER_FIELDS(SALTIGHEDDA_UNREAD) } unread;
+};
+
+struct saltighedda_seqres {
+    uint64_t serial;                      /* 7..10 */
+    char chain;                           /* 11..12 */
+    uint64_t residues;                    /* 13..17: how many the chain has */
+    struct saltighedda_slice triples[13]; /* 19..22, 23..26 and so on to 67..70, those that are there */
+    size_t count;                         /* how many triples there are */
+    struct { SALTIGHEDDA_SEQRES_FIELDS(SALTIGHEDDA_UNREAD) } unread;
+};
+
+struct saltighedda_dbref {
+    struct saltighedda_slice code, chain;                     /* 7..11, 12..13 */
+    int64_t begin, end;                                       /* 14..18, 20..24 */
+    char opening, closing;                                    /* 18..19, 24..25 */
+    struct saltighedda_slice database, accession, name;       /* 26..32, 33..41, 42..54 */
+    int64_t target_begin, target_end;                         /* 55..60, 62..67 */
+    char target_opening, target_closing;                      /* 60..61, 67..68 */
+    struct { SALTIGHEDDA_DBREF_FIELDS(SALTIGHEDDA_UNREAD) } unread;
+};
+
+struct saltighedda_dbref1 {
+    struct saltighedda_slice code, chain;    /* 7..11, 12..13 */
+    int64_t begin, end;                      /* 14..18, 21..24; in wwPDB mode 20..24 */
+    char opening, closing;                   /* 18..19, 24..25 */
+    struct saltighedda_slice database, name; /* 26..32, 47..67 */
+    struct { SALTIGHEDDA_DBREF1_FIELDS(SALTIGHEDDA_UNREAD) } unread;
+};
+
+struct saltighedda_dbref2 {
+    struct saltighedda_slice code, chain, accession; /* 7..11, 12..13, 18..40 */
+    int64_t target_begin, target_end;                /* 45..55, 57..67 */
+    struct { SALTIGHEDDA_DBREF2_FIELDS(SALTIGHEDDA_UNREAD) } unread;
+};
+
+struct saltighedda_seqadv {
+    struct saltighedda_slice code, residue, chain; /* 7..11, 12..15, 16..17 */
+    int64_t number;                                /* 18..22 */
+    char insertion;                                /* 22..23 */
+    struct saltighedda_slice database, accession;  /* 24..28, 29..38 */
+    uint32_t has_target;                           /* whether 39..48 isn't all blanks; the next two are 0 if it is */
+    struct saltighedda_slice target_name;          /* 39..42 */
+    int64_t target_number;                         /* 43..48 */
+    struct saltighedda_slice comment;              /* from 49 */
+    struct { SALTIGHEDDA_SEQADV_FIELDS(SALTIGHEDDA_UNREAD) } unread;
+};
+
+struct saltighedda_modres {
+    struct saltighedda_slice code, residue;     /* 7..11, 12..15 */
+    char chain;                                 /* 16..17 */
+    int64_t number;                             /* 18..22 */
+    char insertion;                             /* 22..23 */
+    struct saltighedda_slice standard, comment; /* 24..27, from 29 */
+    struct { SALTIGHEDDA_MODRES_FIELDS(SALTIGHEDDA_UNREAD) } unread;
+};
+
+struct saltighedda_ssbond {
+    struct saltighedda_slice residue, other_residue;   /* 11..14, 25..28 */
+    char chain, other_chain;                           /* 15..16, 29..30 */
+    int64_t number, other_number;                      /* 17..21, 31..35 */
+    char insertion, other_insertion;                   /* 21..22, 35..36 */
+    uint32_t has_tail;                                 /* whether the line has 78 bytes or more; the next three are 0 if not */
+    struct saltighedda_slice symmetry, other_symmetry; /* 59..65, 66..72 */
+    double length;                                     /* 73..78 */
+    uint8_t decimals[1];
+    struct { SALTIGHEDDA_SSBOND_FIELDS(SALTIGHEDDA_UNREAD) } unread;
+};
+
+/*
+ * Reading. Each function fills its struct from a record that saltighedda_get has read, and returns 1; or it returns 0 if the record is
+ * of another family, and the struct is as it was. Fields and list ascend by column, so one goes along the other.
+ */
+#define SALTIGHEDDA_TAKE_U(member) v->member = at[1];
+#define SALTIGHEDDA_TAKE_I(member) v->member = (int64_t)at[1];
+#define SALTIGHEDDA_TAKE_A(member) v->member = saltighedda_real(at[1]);
+#define SALTIGHEDDA_TAKE_R(member) v->member = saltighedda_real(at[1]), v->decimals[reals++] = (uint8_t)SALTIGHEDDA_DECIMALS(at[0]);
+#define SALTIGHEDDA_TAKE_T(member) v->member = saltighedda_text(record, at[1]);
+#define SALTIGHEDDA_TAKE_C(member) v->member = at[1] < 256 ? (char)at[1] : ' ', v->unread.member = at[1] == 0;
+#define SALTIGHEDDA_TAKE_B(member) v->member = (uint32_t)at[1];
+#define SALTIGHEDDA_TAKE_L(member) \
+    do v->member[v->count++] = saltighedda_text(record, at[1]); \
+    while ((at += 2) < last); \
+    at -= 2;
+#define SALTIGHEDDA_TAKE(sort, member, first, end, words) \
+    if (at < last && SALTIGHEDDA_COLUMN(at[0]) - first < end - first) { SALTIGHEDDA_TAKE_##sort(member) at += 2; }
+#define SALTIGHEDDA_MARK(sort, member, first, end, words) \
+    if (fault.place - first < end - first) v->unread.member = 1;
+#define SALTIGHEDDA_FILL(list) \
+    const uint64_t *at = record->fields + 2, *last = at + 2 * record->fields[1]; \
+    size_t reals = 0; \
+    (void)reals; \
+    memset(v, 0, sizeof *v); \
+    SALTIGHEDDA_##list##_FIELDS(SALTIGHEDDA_TAKE) \
+    for (size_t n = 0; n < record->faults[0]; n++) { \
+        struct saltighedda_fault fault = saltighedda_fault_at(record, n); \
+        if (fault.fault < 5) { SALTIGHEDDA_##list##_FIELDS(SALTIGHEDDA_MARK) } \
+    }
+
+/* A name is its four columns, unless the line ends before. */
+#define SALTIGHEDDA_WHOLE_NAME \
+    v->trimmed_name = v->name; \
+    if (!v->unread.name) v->name.bytes = record->line + 12, v->name.length = 4;
+
+static inline int saltighedda_get_atom(struct saltighedda_atom *v, const struct saltighedda_record *record)
+{
+    if (record->fields[0] != SALTIGHEDDA_ATOM && record->fields[0] != SALTIGHEDDA_HETATM)
+        return 0;
+    SALTIGHEDDA_FILL(ATOM)
+    SALTIGHEDDA_WHOLE_NAME
+    v->hetero = record->fields[0] == SALTIGHEDDA_HETATM;
+    return 1;
+}
+
+static inline int saltighedda_get_anisou(struct saltighedda_anisou *v, const struct saltighedda_record *record)
+{
+    if (record->fields[0] != SALTIGHEDDA_ANISOU)
+        return 0;
+    SALTIGHEDDA_FILL(ANISOU)
+    SALTIGHEDDA_WHOLE_NAME
+    return 1;
+}
+
+static inline int saltighedda_get_row(struct saltighedda_row *v, const struct saltighedda_record *record)
+{
+    if (record->fields[0] < SALTIGHEDDA_SCALE1 || record->fields[0] > SALTIGHEDDA_MTRIX3)
+        return 0;
+    SALTIGHEDDA_FILL(MTRIX)
+    v->family = (uint32_t)(record->fields[0] - SALTIGHEDDA_SCALE1) / 3;
+    v->row = (record->fields[0] - SALTIGHEDDA_SCALE1) % 3;
+    return 1;
+}
+
+static inline int saltighedda_get_seqadv(struct saltighedda_seqadv *v, const struct saltighedda_record *record)
+{
+    if (record->fields[0] != SALTIGHEDDA_SEQADV)
+        return 0;
+    SALTIGHEDDA_FILL(SEQADV)
+    v->has_target = saltighedda_words_at(record, 39) != NULL;
+    return 1;
+}
+
+static inline int saltighedda_get_ssbond(struct saltighedda_ssbond *v, const struct saltighedda_record *record)
+{
+    if (record->fields[0] != SALTIGHEDDA_SSBOND)
+        return 0;
+    SALTIGHEDDA_FILL(SSBOND)
+    v->has_tail = saltighedda_words_at(record, 73) != NULL;
+    return 1;
+}
+
+#define SALTIGHEDDA_PLAIN(family, kind, list) \
+    static inline int saltighedda_get_##family(struct saltighedda_##family *v, const struct saltighedda_record *record) \
+    { \
+        if (record->fields[0] != SALTIGHEDDA_##kind) \
+            return 0; \
+        SALTIGHEDDA_FILL(list) \
+        return 1; \
+    }
+SALTIGHEDDA_PLAIN(cell, CRYST1, CELL)
+SALTIGHEDDA_PLAIN(model, MODEL, MODEL)
+SALTIGHEDDA_PLAIN(header, HEADER, HEADER)
+SALTIGHEDDA_PLAIN(remark, REMARK, REMARK)
+SALTIGHEDDA_PLAIN(master, MASTER, MASTER)
+SALTIGHEDDA_PLAIN(seqres, SEQRES, SEQRES)
+SALTIGHEDDA_PLAIN(dbref, DBREF, DBREF)
+SALTIGHEDDA_PLAIN(dbref1, DBREF1, DBREF1)
+SALTIGHEDDA_PLAIN(dbref2, DBREF2, DBREF2)
+SALTIGHEDDA_PLAIN(modres, MODRES, MODRES)
+
+/* Writing. Each function hands its struct's members over to the entry of its family. */
+#define SALTIGHEDDA_LENT(slice) v->slice.bytes, v->slice.length
+#define SALTIGHEDDA_ONE(member) (const uint8_t *)&v->member, (size_t)(v->member != 0)
 
 static inline uint64_t saltighedda_put_atom(const struct saltighedda_atom *v, uint8_t *out, size_t out_len)
 {
-    return saltighedda_write_atom(v->hetero, v->serial, v->name.bytes, v->name.length, v->alternate.bytes, v->alternate.length,
-                                  v->residue.bytes, v->residue.length, v->chain.bytes, v->chain.length, v->number,
-                                  v->insertion.bytes, v->insertion.length, v->x, v->y, v->z, v->occupancy, v->bfactor,
-                                  v->segment.bytes, v->segment.length, v->element.bytes, v->element.length, v->charge,
-                                  v->places.bytes, v->places.length, out, out_len);
+    return saltighedda_write_atom(v->hetero, v->serial, SALTIGHEDDA_LENT(name), SALTIGHEDDA_ONE(alternate),
+                                  SALTIGHEDDA_LENT(residue), SALTIGHEDDA_ONE(chain), v->number, SALTIGHEDDA_ONE(insertion), v->x,
+                                  v->y, v->z, v->occupancy, v->bfactor, SALTIGHEDDA_LENT(segment), SALTIGHEDDA_LENT(element),
+                                  v->charge, SALTIGHEDDA_LENT(places), out, out_len);
 }
 
 static inline uint64_t saltighedda_put_anisou(const struct saltighedda_anisou *v, uint8_t *out, size_t out_len)
 {
-    return saltighedda_write_anisou(v->serial, v->name.bytes, v->name.length, v->alternate.bytes, v->alternate.length,
-                                    v->residue.bytes, v->residue.length, v->chain.bytes, v->chain.length, v->number,
-                                    v->insertion.bytes, v->insertion.length, v->u11, v->u22, v->u33, v->u12, v->u13, v->u23,
-                                    v->segment.bytes, v->segment.length, v->element.bytes, v->element.length, v->charge, out,
-                                    out_len);
+    return saltighedda_write_anisou(v->serial, SALTIGHEDDA_LENT(name), SALTIGHEDDA_ONE(alternate), SALTIGHEDDA_LENT(residue),
+                                    SALTIGHEDDA_ONE(chain), v->number, SALTIGHEDDA_ONE(insertion), v->u11, v->u22, v->u33, v->u12,
+                                    v->u13, v->u23, SALTIGHEDDA_LENT(segment), SALTIGHEDDA_LENT(element), v->charge, out, out_len);
 }
 
 static inline uint64_t saltighedda_put_cell(const struct saltighedda_cell *v, uint8_t *out, size_t out_len)
 {
-    return saltighedda_write_cell(v->a, v->b, v->c, v->alpha, v->beta, v->gamma, v->group.bytes, v->group.length, v->z,
-                                  v->places.bytes, v->places.length, out, out_len);
+    return saltighedda_write_cell(v->a, v->b, v->c, v->alpha, v->beta, v->gamma, SALTIGHEDDA_LENT(group), v->z,
+                                  SALTIGHEDDA_LENT(places), out, out_len);
 }
 
 static inline uint64_t saltighedda_put_row(const struct saltighedda_row *v, uint8_t *out, size_t out_len)
 {
-    return saltighedda_write_row(v->family, v->row, v->serial, v->a, v->b, v->c, v->d, v->given, v->places.bytes,
-                                 v->places.length, out, out_len);
+    return saltighedda_write_row(v->family, v->row, v->serial, v->a, v->b, v->c, v->d, v->given, SALTIGHEDDA_LENT(places), out,
+                                 out_len);
+}
+
+static inline uint64_t saltighedda_put_model(const struct saltighedda_model *v, uint8_t *out, size_t out_len)
+{
+    return saltighedda_write_model(v->number, out, out_len);
 }
 
 #ifdef __cplusplus

@@ -1,10 +1,10 @@
 #!/bin/bash
-# The C face from C: the edges of its entries, the kinds of drawn lines beside the rule, the columns that don't matter and those that do, what is
-# written beside what printf writes, what is moved beside C's own doubles, how many decimals were read beside how many were drawn, exponents
-# beside whole numbers and strtod, files held against their MASTER lines beside a count of C's own, lines mended beside a mending of C's own, the
-# example hosts on the sample file and on made ones, and an installation as a C programmer uses it. All is compiled for x86-64, as the library is.
-# Wants target/staticlib/libsaltighedda.a, target/bin/pdblist, target/bin/pdbmaster and target/bin/pdbmend. Prints a line for each thing that
-# holds; the status is 1 if one doesn't.
+# The C face from C: the edges of its entries, the words and structs of a line beside its listing, the kinds of drawn lines beside the rule, the
+# columns that don't matter and those that do, what is written beside what printf writes, what is moved beside C's own doubles, how many decimals
+# were read beside how many were drawn, exponents beside whole numbers and strtod, files held against their MASTER lines beside a count of C's
+# own, lines mended beside a mending of C's own, the example hosts on the sample file and on made ones, and an installation as a C programmer uses
+# it. All is compiled for x86-64, as the library is. Wants target/staticlib/libsaltighedda.a, target/bin/pdblist, target/bin/pdbmaster and
+# target/bin/pdbmend. Prints a line for each thing that holds; the status is 1 if one doesn't.
 set -eu
 cd "$(dirname "${BASH_SOURCE[0]}")/.."
 . tests/have.sh
@@ -43,8 +43,8 @@ edited() {
 }
 
 # The sample's only zinc is cut off. In the made file the first two can be moved, the second a line of 78 bytes and CR LF; then come one that
-# doesn't fit behind the move, another element, a number that isn't one, half a charge, a tab in the name, a byte of 128 or more, and a good
-# one without a line end.
+# doesn't fit behind the move, another element, a number that isn't one, half a charge, a tab in the name, a byte of 128 or more, a NUL for a
+# chain, and a good one without a line end.
 cp examples/zinc.pdb "$folder/zinc.pdb"
 cp examples/zinc.pdb "$folder/zinc.pdb.moved"
 as_it_is="the line is copied as it is"
@@ -56,6 +56,7 @@ kept() {
     echo 'HETATM   23 ZN    ZN A 106      11.639   6.071  -5.147  1.00 17.90          ZN2'
     printf 'HETATM   24 ZN\t   ZN A 107      11.639   6.071  -5.147  1.00 17.90          ZN2+\n'
     printf 'HETATM   25 ZN    ZN A 108      11.639   6.071  -5.147  1.00 17.90   \302\265    ZN2+\n'
+    printf 'HETATM   25 ZN    ZN \0 108      11.639   6.071  -5.147  1.00 17.90          ZN2+\n'
 }
 {
     echo 'HETATM   18 ZN    ZN A 101      11.639   6.071  -5.147  1.00 17.90          ZN2+'
@@ -72,9 +73,10 @@ kept() {
 {
     echo "made.pdb:3: columns 31 to 38: x doesn't fit; $as_it_is"
     echo "made.pdb:5: columns 47 to 54: z was not read; $as_it_is"
-    echo "made.pdb:6: columns 79 to 80: the charge was not read; $as_it_is"
-    echo "made.pdb:7: columns 13 to 16: the atom's name doesn't fit; $as_it_is"
-    echo "made.pdb:8: columns 70 to 70: the line is too long or has a byte of 128 or more there, and was not read; $as_it_is"
+    echo "made.pdb:6: columns 79 to 80: charge was not read; $as_it_is"
+    echo "made.pdb:7: columns 13 to 16: atom name doesn't fit; $as_it_is"
+    echo "made.pdb:8: columns 70 to 70: the line has a byte of 128 or more, and nothing was read; $as_it_is"
+    echo "made.pdb:9: columns 22 to 22: chain was not read; $as_it_is"
 } > "$folder/made.pdb.said"
 
 # transformed SERIAL STATUS COMMAND..: the host that moves a file's atoms by its own rows; what it prints and what it says.
@@ -103,7 +105,7 @@ still() {
     echo 'HETATM    4  O   HOH A   4      11.639   *.***  -5.147  1.00 17.90           O  '
     printf 'END'
 }
-left_out="rows.pdb:6: columns 31 to 40: a number was not read; the row is left out"
+left_out="rows.pdb:6: columns 31 to 40: third matrix element was not read; the row is left out"
 {
     rows
     echo 'ATOM      1  CA  GLY A   1      11.639   6.071  -5.147  1.00 17.90           C  '
@@ -208,17 +210,17 @@ lost() {
     echo "other.pdb:7: columns 31 to 38: x doesn't fit as it was written; $as_it_is"
     echo "other.pdb:8: columns 39 to 46: y was not read; $as_it_is"
     echo "other.pdb:9: columns 39 to 46: y was not read; $as_it_is"
-    echo "other.pdb:10: columns 79 to 80: the charge was not read; $as_it_is"
-    echo "other.pdb:11: columns 13 to 16: the atom's name doesn't fit as it was written; $as_it_is"
-    echo "other.pdb:12: columns 69 to 69: the line is too long or has a byte of 128 or more there, and was not read; $as_it_is"
+    echo "other.pdb:10: columns 79 to 80: charge was not read; $as_it_is"
+    echo "other.pdb:11: columns 13 to 16: atom name doesn't fit as it was written; $as_it_is"
+    echo "other.pdb:12: columns 69 to 69: the line has a byte of 128 or more, and nothing was read; $as_it_is"
     echo "other.pdb:13: columns 21 to 21: something is in no field; $as_it_is"
     echo "other.pdb:14: columns 83 to 83: something is in no field; $as_it_is"
     echo "other.pdb:15: columns 67 to 70: Z was not read; $as_it_is"
-    echo "other.pdb:16: columns 34 to 55: the line is too short, and was not read; $as_it_is"
-    echo "other.pdb:17: columns 31 to 40: a factor was not read; $as_it_is"
-    echo "other.pdb:18: columns 11 to 20: a factor doesn't fit as it was written; $as_it_is"
-    echo "other.pdb:19: columns 60 to 60: the mark was not read; $as_it_is"
-    echo "other.pdb:20: columns 11 to 14: the number doesn't fit as it was written; $as_it_is"
+    echo "other.pdb:16: columns 34 to 55: the line is too short for its kind, and nothing was read; $as_it_is"
+    echo "other.pdb:17: columns 31 to 40: third matrix element was not read; $as_it_is"
+    echo "other.pdb:18: columns 11 to 20: first matrix element doesn't fit as it was written; $as_it_is"
+    echo "other.pdb:19: columns 60 to 60: given mark was not read; $as_it_is"
+    echo "other.pdb:20: columns 11 to 14: model number doesn't fit as it was written; $as_it_is"
 } > "$folder/other.pdb.said"
 
 # indexed FILE COMMAND..: the host that counts a file's lines by their kinds; what it prints.
@@ -270,9 +272,61 @@ END            1  first in line 12
 refused        2  first in line 5
 end
 
+# merged STATUS COMMAND..: the host that merges the faults of files; what it prints and what it says.
+merged() {
+    local wanted=$1 status=0
+    shift
+    (cd "$folder" && "$@") > "$folder/list" 2> "$folder/said" || status=$?
+    [ $status = "$wanted" ] || fail "the merging host's status is $status and not $wanted: $*"
+    diff -u "$folder/merged" "$folder/list" >&2 || fail "the merging host printed something else: $*"
+    diff -u "$folder/merged.said" "$folder/said" >&2 || fail "the merging host said something else: $*"
+}
+
+# Three files, each fault once, the charge's two beside each other, and a line that is refused.
+{
+    echo 'REMARK   X A NUMBER THAT IS NONE'
+    echo 'HETATM    1 ZN    ZN A 101      11.639   6.071    *.**  1.00 17.90          ZNx+'
+    printf 'MODEL \302\265\n'
+    echo 'ANISOU    1 ZN    ZN A 101     2551   24.3   2702    112    -87     31      ZN2 '
+} > "$folder/first.pdb"
+echo 'SCALE1      0.023491  0.013562' > "$folder/second.pdb"
+cat > "$folder/merged" << 'end'
+fault 1: the line ends before the field's last column
+    second.pdb:1: SCALE1, columns 31 to 40: third matrix element
+    second.pdb:1: SCALE1, columns 46 to 55: translation
+    zinc.pdb:30: HETATM, columns 31 to 38: x
+    zinc.pdb:30: HETATM, columns 39 to 46: y
+    zinc.pdb:30: HETATM, columns 47 to 54: z
+    zinc.pdb:30: HETATM, columns 55 to 60: occupancy
+    zinc.pdb:30: HETATM, columns 61 to 66: B factor
+    zinc.pdb:30: HETATM, columns 73 to 76: segment
+    zinc.pdb:30: HETATM, columns 77 to 78: element
+fault 2: the columns hold no number of the field's sort
+    first.pdb:1: REMARK, columns 8 to 10: remark number
+    first.pdb:2: HETATM, columns 47 to 54: z
+    first.pdb:4: ANISOU, columns 36 to 42: U22
+fault 3: the charge has no digit
+    first.pdb:2: HETATM, columns 79 to 79: charge
+fault 4: the charge has no sign
+    first.pdb:4: ANISOU, columns 80 to 80: charge
+end
+echo "first.pdb:3: line not read: the line has a byte of 128 or more" > "$folder/merged.said"
+
 $CC $warned -Iinclude -o "$folder/face" tests/face.c target/staticlib/libsaltighedda.a
 "$run" "$folder/face" || fail "an entry isn't as the header says"
 echo "c: the entries are as the header says"
+
+if why=$(missing c++); then
+    echo "c: left out: $why"
+else
+    printf '#include <saltighedda.h>\nint main() { return 0; }\n' > "$folder/header.cpp"
+    $CXX -Wall -Wextra -Werror -Iinclude -c -o "$folder/header.o" "$folder/header.cpp" || fail "the header is no C++"
+    echo "c: the header serves C++ too"
+fi
+
+$CC $warned -O1 -Iinclude -o "$folder/typed" tests/typed.c target/staticlib/libsaltighedda.a
+"$run" "$folder/typed" || fail "a line isn't read into words and structs as the header says"
+echo "c: the words of a line say what its listing says, and the structs what the words say, two hundred thousand drawn lines among others"
 
 $CC $warned -Iinclude -o "$folder/kind" tests/kind.c target/staticlib/libsaltighedda.a
 "$run" "$folder/kind" || fail "a line's kind isn't as the header says"
@@ -355,6 +409,13 @@ indexed kinds.pdb "$run" "$folder/index"
 indexed standard.pdb "$run" "$folder/index" --wwpdb
 echo "c: the indexing host counts a file's lines by their kinds"
 
+$CC $warned -Iinclude -o "$folder/merge" examples/merge.c target/staticlib/libsaltighedda.a
+merged 1 "$run" "$folder/merge" first.pdb second.pdb zinc.pdb
+status=0
+"$run" "$folder/merge" "$folder/same.pdb" "$folder/none" 2> "$folder/why" || status=$?
+[ $status = 2 ] && [ -s "$folder/why" ] || fail "the merging host says nothing of a file that isn't there"
+echo "c: the merging host sorts the faults of several files, and each still says its file, line, record and columns"
+
 if why=$(missing valgrind); then
     echo "c: left out: $why"
 else
@@ -375,6 +436,8 @@ else
     rewritten other.pdb 1 $memory "$folder/rewrite"
     $memory "$folder/kind" 5000 || fail "valgrind found a fault in the use of memory"
     indexed kinds.pdb $memory "$folder/index"
+    $memory "$folder/typed" 2000 || fail "valgrind found a fault in the use of memory"
+    merged 1 $memory "$folder/merge" first.pdb second.pdb zinc.pdb
     echo "c: and so under valgrind"
 fi
 
@@ -384,11 +447,14 @@ make --no-print-directory install PREFIX="$prefix" > "$folder/installed"
 if why=$(missing pkg-config); then
     echo "c: left out: $why"
 else
-    cp examples/host.c "$folder/host.c"
+    cp examples/host.c examples/fields.h "$folder"
     flags=$(PKG_CONFIG_PATH="$prefix/lib/pkgconfig" pkg-config --cflags --libs saltighedda)
     (cd "$folder" && eval "$CC $warned -o installed-host host.c $flags")
     told "$run" "$folder/installed-host"
-    echo "c: an installation serves a host through pkg-config"
+    rm "$prefix/lib/libsaltighedda.so"
+    (cd "$folder" && eval "$CC $warned -o installed-host host.c $flags")
+    told "$run" "$folder/installed-host"
+    echo "c: an installation serves a host through pkg-config, with the shared library and with the archive"
 fi
 "$run" "$prefix/bin/pdblist" < crates/pdblist/stdin | cmp - crates/pdblist/stdout || fail "the installed pdblist printed something else"
 echo "c: the installed pdblist lists"

@@ -55,7 +55,7 @@ form() {
             is_given "$right" || { echo "has an equation that needn't fix its draft"; return 1; }
             echo page
             ;;
-        'into.ListedInto '* | 'specs.WrittenInto '* | 'specs.Told '* | 'specs.Fills '* | 'specs.Feeds '* | 'specs.Puts '* | 'specs.Ends '* | 'sheets.Writes '* | 'specs.Packs '* | 'specs.Collects '* | 'specs.Applies '* | 'specs.Counts '* | 'specs.Finds '* | 'specs.Absorbs '* | 'specs.Watches '* | 'specs.Mends '* | 'specs.MendsInto '* | 'specs.Repairs '*) echo named ;;
+        'into.ListedInto '* | 'specs.WrittenInto '* | 'specs.Told '* | 'specs.Fills '* | 'specs.Feeds '* | 'specs.Puts '* | 'specs.Ends '* | 'sheets.Writes '* | 'specs.Packs '* | 'specs.Collects '* | 'specs.Applies '* | 'specs.Counts '* | 'specs.Finds '* | 'specs.Absorbs '* | 'specs.Watches '* | 'specs.Mends '* | 'specs.MendsInto '* | 'specs.Repairs '* | 'specs.Reads '*) echo named ;;
         '(r .file ≡ '*' × (r .at ≡ '*) echo fields ;;
         *) echo "has no contract of a known form"; return 1 ;;
     esac

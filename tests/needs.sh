@@ -5,7 +5,7 @@ cd "$(dirname "${BASH_SOURCE[0]}")/.."
 . tests/have.sh
 
 tools/run --how || exit 1
-for part in c valgrind pkg-config script rust; do
+for part in c c++ valgrind pkg-config shared cargo python pip readme script rust; do
     if why=$(missing $part); then
         echo "left out: $why"
     fi

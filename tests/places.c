@@ -63,7 +63,7 @@ static uint64_t put_atom(const char *line, const double *real, struct saltighedd
     v.serial = 1;
     v.name = text(" CA ");
     v.residue = text("GLY");
-    v.chain = text("A");
+    v.chain = 'A';
     v.number = 1;
     v.x = real[0];
     v.y = real[1];

@@ -35,6 +35,29 @@ static struct saltighedda_slice text(const char *bytes)
     return slice;
 }
 
+/* The header's structs have one character where the entries take texts of any length, so the entries get structs of their own here. */
+struct atom {
+    uint32_t hetero;
+    uint64_t serial;
+    struct saltighedda_slice name, alternate, residue, chain;
+    int64_t number;
+    struct saltighedda_slice insertion;
+    double x, y, z, occupancy, bfactor;
+    struct saltighedda_slice segment, element;
+    int64_t charge;
+    struct saltighedda_slice places;
+};
+
+struct anisou {
+    uint64_t serial;
+    struct saltighedda_slice name, alternate, residue, chain;
+    int64_t number;
+    struct saltighedda_slice insertion;
+    double u11, u22, u33, u12, u13, u23;
+    struct saltighedda_slice segment, element;
+    int64_t charge;
+};
+
 static uint64_t refusal(uint64_t number, uint64_t place, uint64_t length)
 {
     return (number << 48) + (place << 32) + length;
@@ -148,7 +171,7 @@ static unsigned places_of(struct saltighedda_slice places, size_t n, unsigned fo
 }
 
 /* ATOM, HETATM and ANISOU have their first and their last fields in common. */
-static void want_label(struct wanted *w, const struct saltighedda_atom *v)
+static void want_label(struct wanted *w, const struct atom *v)
 {
     want_unsigned(w, 6, 5, v->serial);
     if (v->name.length == 4)
@@ -162,7 +185,7 @@ static void want_label(struct wanted *w, const struct saltighedda_atom *v)
     want_text(w, 26, 1, v->insertion, RIGHT);
 }
 
-static void want_tail(struct wanted *w, const struct saltighedda_atom *v)
+static void want_tail(struct wanted *w, const struct atom *v)
 {
     want_text(w, 72, 4, v->segment, LEFT);
     want_text(w, 76, 2, v->element, RIGHT);
@@ -171,7 +194,7 @@ static void want_tail(struct wanted *w, const struct saltighedda_atom *v)
 
 static void want_atom(struct wanted *w, const void *record)
 {
-    const struct saltighedda_atom *v = record;
+    const struct atom *v = record;
     want_name(w, v->hetero ? "HETATM" : "ATOM");
     want_label(w, v);
     want_real(w, 30, 8, places_of(v->places, 0, 3), v->x);
@@ -184,8 +207,8 @@ static void want_atom(struct wanted *w, const void *record)
 
 static void want_anisou(struct wanted *w, const void *record)
 {
-    const struct saltighedda_anisou *v = record;
-    struct saltighedda_atom label = {0};
+    const struct anisou *v = record;
+    struct atom label = {0};
     label.serial = v->serial;
     label.name = v->name;
     label.alternate = v->alternate;
@@ -264,12 +287,19 @@ static void want_bare(struct wanted *w, const void *record)
 
 static uint64_t put_atom(const void *record, uint8_t *out, size_t room)
 {
-    return saltighedda_put_atom(record, out, room);
+    const struct atom *v = record;
+    return saltighedda_write_atom(v->hetero, v->serial, SALTIGHEDDA_LENT(name), SALTIGHEDDA_LENT(alternate), SALTIGHEDDA_LENT(residue),
+                                  SALTIGHEDDA_LENT(chain), v->number, SALTIGHEDDA_LENT(insertion), v->x, v->y, v->z, v->occupancy,
+                                  v->bfactor, SALTIGHEDDA_LENT(segment), SALTIGHEDDA_LENT(element), v->charge, SALTIGHEDDA_LENT(places),
+                                  out, room);
 }
 
 static uint64_t put_anisou(const void *record, uint8_t *out, size_t room)
 {
-    return saltighedda_put_anisou(record, out, room);
+    const struct anisou *v = record;
+    return saltighedda_write_anisou(v->serial, SALTIGHEDDA_LENT(name), SALTIGHEDDA_LENT(alternate), SALTIGHEDDA_LENT(residue),
+                                    SALTIGHEDDA_LENT(chain), v->number, SALTIGHEDDA_LENT(insertion), v->u11, v->u22, v->u33, v->u12,
+                                    v->u13, v->u23, SALTIGHEDDA_LENT(segment), SALTIGHEDDA_LENT(element), v->charge, out, room);
 }
 
 static uint64_t put_cell(const void *record, uint8_t *out, size_t room)
@@ -377,8 +407,8 @@ static void try_line(const struct family *f, const void *record, const char *lin
 
 /* ---- Whole lines. ---- */
 
-static struct saltighedda_atom zinc;
-static struct saltighedda_anisou sulphur;
+static struct atom zinc;
+static struct anisou sulphur;
 static struct saltighedda_cell cell;
 static struct saltighedda_row matrix;
 
@@ -433,7 +463,7 @@ static void make_records(void)
 static void try_atom_lines(void)
 {
     static const uint8_t places[] = {0, 1, 6, 0, 3};
-    struct saltighedda_atom v = zinc;
+    struct atom v = zinc;
     try_line(&atoms, &v, "HETATM   18 ZN    ZN A 101      11.639   6.071  -5.147  1.00 17.90          ZN2+");
     v.hetero = 0;
     v.charge = 0;
@@ -465,7 +495,7 @@ static void try_other_lines(void)
     static const uint64_t model = 2;
     static const uint32_t which[] = {0, 1, 2};
     struct saltighedda_row v = matrix;
-    struct saltighedda_anisou u = sulphur;
+    struct anisou u = sulphur;
     try_line(&anisous, &u, "ANISOU    6  SG  CYS A   1     2551   2403   2702    112    -87     31       S  ");
     u.u11 = -0.00004;
     u.u22 = -0.00006;
@@ -526,32 +556,32 @@ static void try_flat(void)
 
 static void try_whole_numbers(void)
 {
-    TRY(atoms, saltighedda_atom, zinc, hetero, 256, 0, 0);
-    TRY(atoms, saltighedda_atom, zinc, hetero, UINT32_MAX, 0, 0);
-    TRY(atoms, saltighedda_atom, zinc, serial, 0, 0, 0);
-    TRY(atoms, saltighedda_atom, zinc, serial, 99999, 0, 0);
-    TRY(atoms, saltighedda_atom, zinc, serial, 100000, 6, 5);
-    TRY(atoms, saltighedda_atom, zinc, serial, UINT64_C(1) << 32, 6, 5);
-    TRY(atoms, saltighedda_atom, zinc, serial, UINT64_MAX, 6, 5);
-    TRY(atoms, saltighedda_atom, zinc, number, 0, 0, 0);
-    TRY(atoms, saltighedda_atom, zinc, number, 9999, 0, 0);
-    TRY(atoms, saltighedda_atom, zinc, number, 10000, 22, 4);
-    TRY(atoms, saltighedda_atom, zinc, number, -999, 0, 0);
-    TRY(atoms, saltighedda_atom, zinc, number, -1000, 22, 4);
-    TRY(atoms, saltighedda_atom, zinc, number, INT64_MAX, 22, 4);
-    TRY(atoms, saltighedda_atom, zinc, number, INT64_MIN, 22, 4);
-    TRY(atoms, saltighedda_atom, zinc, charge, 9, 0, 0);
-    TRY(atoms, saltighedda_atom, zinc, charge, 10, 78, 2);
-    TRY(atoms, saltighedda_atom, zinc, charge, -9, 0, 0);
-    TRY(atoms, saltighedda_atom, zinc, charge, -10, 78, 2);
-    TRY(atoms, saltighedda_atom, zinc, charge, INT64_MAX, 78, 2);
-    TRY(atoms, saltighedda_atom, zinc, charge, INT64_MIN, 78, 2);
-    TRY(anisous, saltighedda_anisou, sulphur, serial, 99999, 0, 0);
-    TRY(anisous, saltighedda_anisou, sulphur, serial, 100000, 6, 5);
-    TRY(anisous, saltighedda_anisou, sulphur, number, -999, 0, 0);
-    TRY(anisous, saltighedda_anisou, sulphur, number, -1000, 22, 4);
-    TRY(anisous, saltighedda_anisou, sulphur, charge, -9, 0, 0);
-    TRY(anisous, saltighedda_anisou, sulphur, charge, 10, 78, 2);
+    TRY(atoms, atom, zinc, hetero, 256, 0, 0);
+    TRY(atoms, atom, zinc, hetero, UINT32_MAX, 0, 0);
+    TRY(atoms, atom, zinc, serial, 0, 0, 0);
+    TRY(atoms, atom, zinc, serial, 99999, 0, 0);
+    TRY(atoms, atom, zinc, serial, 100000, 6, 5);
+    TRY(atoms, atom, zinc, serial, UINT64_C(1) << 32, 6, 5);
+    TRY(atoms, atom, zinc, serial, UINT64_MAX, 6, 5);
+    TRY(atoms, atom, zinc, number, 0, 0, 0);
+    TRY(atoms, atom, zinc, number, 9999, 0, 0);
+    TRY(atoms, atom, zinc, number, 10000, 22, 4);
+    TRY(atoms, atom, zinc, number, -999, 0, 0);
+    TRY(atoms, atom, zinc, number, -1000, 22, 4);
+    TRY(atoms, atom, zinc, number, INT64_MAX, 22, 4);
+    TRY(atoms, atom, zinc, number, INT64_MIN, 22, 4);
+    TRY(atoms, atom, zinc, charge, 9, 0, 0);
+    TRY(atoms, atom, zinc, charge, 10, 78, 2);
+    TRY(atoms, atom, zinc, charge, -9, 0, 0);
+    TRY(atoms, atom, zinc, charge, -10, 78, 2);
+    TRY(atoms, atom, zinc, charge, INT64_MAX, 78, 2);
+    TRY(atoms, atom, zinc, charge, INT64_MIN, 78, 2);
+    TRY(anisous, anisou, sulphur, serial, 99999, 0, 0);
+    TRY(anisous, anisou, sulphur, serial, 100000, 6, 5);
+    TRY(anisous, anisou, sulphur, number, -999, 0, 0);
+    TRY(anisous, anisou, sulphur, number, -1000, 22, 4);
+    TRY(anisous, anisou, sulphur, charge, -9, 0, 0);
+    TRY(anisous, anisou, sulphur, charge, 10, 78, 2);
     TRY(cells, saltighedda_cell, cell, z, 0, 0, 0);
     TRY(cells, saltighedda_cell, cell, z, 9999, 0, 0);
     TRY(cells, saltighedda_cell, cell, z, 10000, 66, 4);
@@ -586,29 +616,29 @@ static void try_names(void)
 static void try_reals(void)
 {
     double infinity = DBL_MAX * 2, none = infinity - infinity;
-    TRY(atoms, saltighedda_atom, zinc, x, 9999.9994, 0, 0);
-    TRY(atoms, saltighedda_atom, zinc, x, 9999.9996, 30, 8);
-    TRY(atoms, saltighedda_atom, zinc, x, -999.9994, 0, 0);
-    TRY(atoms, saltighedda_atom, zinc, x, -999.9996, 30, 8);
-    TRY(atoms, saltighedda_atom, zinc, x, none, 30, 8);
-    TRY(atoms, saltighedda_atom, zinc, y, -none, 38, 8);
-    TRY(atoms, saltighedda_atom, zinc, y, infinity, 38, 8);
-    TRY(atoms, saltighedda_atom, zinc, z, -infinity, 46, 8);
-    TRY(atoms, saltighedda_atom, zinc, z, DBL_MAX, 46, 8);
-    TRY(atoms, saltighedda_atom, zinc, z, DBL_MIN / 2, 0, 0);
-    TRY(atoms, saltighedda_atom, zinc, z, -DBL_MIN / 2, 0, 0);
-    TRY(atoms, saltighedda_atom, zinc, occupancy, 999.994, 0, 0);
-    TRY(atoms, saltighedda_atom, zinc, occupancy, 999.996, 54, 6);
-    TRY(atoms, saltighedda_atom, zinc, bfactor, -99.994, 0, 0);
-    TRY(atoms, saltighedda_atom, zinc, bfactor, -99.996, 60, 6);
-    TRY(anisous, saltighedda_anisou, sulphur, u11, 999.9999, 0, 0);
-    TRY(anisous, saltighedda_anisou, sulphur, u11, 999.99996, 28, 7);
-    TRY(anisous, saltighedda_anisou, sulphur, u22, -99.9999, 0, 0);
-    TRY(anisous, saltighedda_anisou, sulphur, u22, -99.99996, 35, 7);
-    TRY(anisous, saltighedda_anisou, sulphur, u33, none, 42, 7);
-    TRY(anisous, saltighedda_anisou, sulphur, u12, infinity, 49, 7);
-    TRY(anisous, saltighedda_anisou, sulphur, u13, -infinity, 56, 7);
-    TRY(anisous, saltighedda_anisou, sulphur, u23, 1000, 63, 7);
+    TRY(atoms, atom, zinc, x, 9999.9994, 0, 0);
+    TRY(atoms, atom, zinc, x, 9999.9996, 30, 8);
+    TRY(atoms, atom, zinc, x, -999.9994, 0, 0);
+    TRY(atoms, atom, zinc, x, -999.9996, 30, 8);
+    TRY(atoms, atom, zinc, x, none, 30, 8);
+    TRY(atoms, atom, zinc, y, -none, 38, 8);
+    TRY(atoms, atom, zinc, y, infinity, 38, 8);
+    TRY(atoms, atom, zinc, z, -infinity, 46, 8);
+    TRY(atoms, atom, zinc, z, DBL_MAX, 46, 8);
+    TRY(atoms, atom, zinc, z, DBL_MIN / 2, 0, 0);
+    TRY(atoms, atom, zinc, z, -DBL_MIN / 2, 0, 0);
+    TRY(atoms, atom, zinc, occupancy, 999.994, 0, 0);
+    TRY(atoms, atom, zinc, occupancy, 999.996, 54, 6);
+    TRY(atoms, atom, zinc, bfactor, -99.994, 0, 0);
+    TRY(atoms, atom, zinc, bfactor, -99.996, 60, 6);
+    TRY(anisous, anisou, sulphur, u11, 999.9999, 0, 0);
+    TRY(anisous, anisou, sulphur, u11, 999.99996, 28, 7);
+    TRY(anisous, anisou, sulphur, u22, -99.9999, 0, 0);
+    TRY(anisous, anisou, sulphur, u22, -99.99996, 35, 7);
+    TRY(anisous, anisou, sulphur, u33, none, 42, 7);
+    TRY(anisous, anisou, sulphur, u12, infinity, 49, 7);
+    TRY(anisous, anisou, sulphur, u13, -infinity, 56, 7);
+    TRY(anisous, anisou, sulphur, u23, 1000, 63, 7);
     TRY(cells, saltighedda_cell, cell, a, 99999.9994, 0, 0);
     TRY(cells, saltighedda_cell, cell, a, 99999.9996, 6, 9);
     TRY(cells, saltighedda_cell, cell, b, none, 15, 9);
@@ -655,23 +685,23 @@ static void try_long_texts(void)
     static uint8_t bytes[100000];
     struct saltighedda_slice longer = {bytes, sizeof bytes};
     memset(bytes, 'x', sizeof bytes);
-    TRY(atoms, saltighedda_atom, zinc, name, longer, 12, 4);
-    TRY(atoms, saltighedda_atom, zinc, name, text(" ZN"), 12, 4);
-    TRY(atoms, saltighedda_atom, zinc, name, text("ZN   "), 12, 4);
-    TRY(atoms, saltighedda_atom, zinc, alternate, text("AB"), 16, 1);
-    TRY(atoms, saltighedda_atom, zinc, residue, text("ZINC"), 17, 3);
-    TRY(atoms, saltighedda_atom, zinc, chain, text("AA"), 21, 1);
-    TRY(atoms, saltighedda_atom, zinc, insertion, text("\t"), 26, 1);
-    TRY(atoms, saltighedda_atom, zinc, segment, text("SEGID"), 72, 4);
-    TRY(atoms, saltighedda_atom, zinc, element, text("ZNC"), 76, 2);
-    TRY(atoms, saltighedda_atom, zinc, element, longer, 76, 2);
-    TRY(anisous, saltighedda_anisou, sulphur, name, text("SG"), 12, 4);
-    TRY(anisous, saltighedda_anisou, sulphur, alternate, longer, 16, 1);
-    TRY(anisous, saltighedda_anisou, sulphur, residue, text("C\377S"), 17, 3);
-    TRY(anisous, saltighedda_anisou, sulphur, chain, text("\177"), 21, 1);
-    TRY(anisous, saltighedda_anisou, sulphur, insertion, longer, 26, 1);
-    TRY(anisous, saltighedda_anisou, sulphur, segment, longer, 72, 4);
-    TRY(anisous, saltighedda_anisou, sulphur, element, text("\037"), 76, 2);
+    TRY(atoms, atom, zinc, name, longer, 12, 4);
+    TRY(atoms, atom, zinc, name, text(" ZN"), 12, 4);
+    TRY(atoms, atom, zinc, name, text("ZN   "), 12, 4);
+    TRY(atoms, atom, zinc, alternate, text("AB"), 16, 1);
+    TRY(atoms, atom, zinc, residue, text("ZINC"), 17, 3);
+    TRY(atoms, atom, zinc, chain, text("AA"), 21, 1);
+    TRY(atoms, atom, zinc, insertion, text("\t"), 26, 1);
+    TRY(atoms, atom, zinc, segment, text("SEGID"), 72, 4);
+    TRY(atoms, atom, zinc, element, text("ZNC"), 76, 2);
+    TRY(atoms, atom, zinc, element, longer, 76, 2);
+    TRY(anisous, anisou, sulphur, name, text("SG"), 12, 4);
+    TRY(anisous, anisou, sulphur, alternate, longer, 16, 1);
+    TRY(anisous, anisou, sulphur, residue, text("C\377S"), 17, 3);
+    TRY(anisous, anisou, sulphur, chain, text("\177"), 21, 1);
+    TRY(anisous, anisou, sulphur, insertion, longer, 26, 1);
+    TRY(anisous, anisou, sulphur, segment, longer, 72, 4);
+    TRY(anisous, anisou, sulphur, element, text("\037"), 76, 2);
     TRY(cells, saltighedda_cell, cell, group, text("P 21 21 21 "), 0, 0);
     TRY(cells, saltighedda_cell, cell, group, text("P 21 21 21 2"), 55, 11);
     TRY(cells, saltighedda_cell, cell, group, longer, 55, 11);
@@ -719,7 +749,7 @@ static void try_places(const struct family *f, const void *record, struct saltig
 static void spoil_atoms(void)
 {
     for (unsigned fields = 0; fields < 1u << 15; fields++) {
-        struct saltighedda_atom v = zinc;
+        struct atom v = zinc;
         if (fields >> 0 & 1) v.serial = 100000;
         if (fields >> 1 & 1) v.name = text("ZN");
         if (fields >> 2 & 1) v.alternate = text("AB");
@@ -742,7 +772,7 @@ static void spoil_atoms(void)
 static void spoil_anisous(void)
 {
     for (unsigned fields = 0; fields < 1u << 16; fields++) {
-        struct saltighedda_anisou v = sulphur;
+        struct anisou v = sulphur;
         if (fields >> 0 & 1) v.serial = 100000;
         if (fields >> 1 & 1) v.name = text("");
         if (fields >> 2 & 1) v.alternate = text("\001");
@@ -974,8 +1004,8 @@ static void hold_tried(void)
 
 static void try_all_doubles(uint64_t count)
 {
-    struct saltighedda_atom a = zinc;
-    struct saltighedda_anisou u = sulphur;
+    struct atom a = zinc;
+    struct anisou u = sulphur;
     struct saltighedda_cell c = cell;
     struct saltighedda_row m = matrix;
     const struct reals sorts[] = {

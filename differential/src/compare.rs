@@ -1,6 +1,6 @@
 //! Holds the port's answer to what it has to be: the listing's bytes, the count of bytes written,
-//! the refusal's three numbers, the sorts that its faults 2 name, and every byte of the lent
-//! output and behind it.
+//! the refusal's three numbers, the sorts that its faults 2 name, the line number that its faults
+//! have, and every byte of the lent output and behind it.
 
 use crate::generate::Input;
 use crate::oracle::{Oracle, Refusal, Verdict};
@@ -16,6 +16,7 @@ pub struct Seen {
     pub wrong: Option<&'static str>,
     pub refusal: Refusal,
     pub sorts: Sorts,
+    pub faults_line: u64,
 }
 
 /// What should come of one input: the listing, and the record if the line isn't refused.
@@ -119,7 +120,10 @@ pub fn seen(verdict: &Verdict, listing: &[u8], answer: &Answer) -> Seen {
             Some("the output behind the listing, or that of a refused line")
         }
         _ if answer.sorts != verdict.sorts => Some("the sorts that the faults name"),
+        _ if answer.faults_line != verdict.faults_line => {
+            Some("the line number that the faults have")
+        }
         _ => None,
     };
-    Seen { wrong, refusal, sorts: answer.sorts }
+    Seen { wrong, refusal, sorts: answer.sorts, faults_line: answer.faults_line }
 }

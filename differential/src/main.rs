@@ -29,7 +29,7 @@ use shims::{error, reference_tables};
 use compare::{seen, Case, Desk};
 use domain::Class;
 use generate::{Input, Plan};
-use port::BLOCK;
+use port::{BLOCK, KIND_DIFFERS, LINES_DIFFER};
 use sorts::Sorts;
 use std::io::{self, Read, Write};
 use std::process::ExitCode;
@@ -289,13 +289,14 @@ fn explain(shown: &Shown, class: Class, tables: &Tables, desk: &mut Desk) -> io:
     println!("    {}", described(&input, tables));
     println!("    not as it should be: {}", case.seen.wrong.unwrap_or(shown.why));
     println!("  should be:");
-    print_answer(case.verdict.refusal, &case.listing, case.verdict.sorts);
+    let Case { verdict, seen, .. } = &case;
+    print_answer(verdict.refusal, &case.listing, verdict.sorts, verdict.faults_line);
     println!("  the port:");
-    print_answer(case.seen.refusal, &case.printed, case.seen.sorts);
+    print_answer(seen.refusal, &case.printed, seen.sorts, seen.faults_line);
     Ok(())
 }
 
-fn print_answer(refusal: oracle::Refusal, listing: &[u8], sorts: Sorts) {
+fn print_answer(refusal: oracle::Refusal, listing: &[u8], sorts: Sorts, faults_line: u64) {
     if refusal.number != 0 {
         println!("    refusal={},{},{}", refusal.number, refusal.place, refusal.length);
     } else {
@@ -304,4 +305,10 @@ fn print_answer(refusal: oracle::Refusal, listing: &[u8], sorts: Sorts) {
         }
     }
     println!("    sorts that the faults name: {}", sorts.named());
+    let may_mean = match faults_line {
+        LINES_DIFFER => ", or not all the same",
+        KIND_DIFFERS => ", or one has another kind than the line",
+        _ => "",
+    };
+    println!("    line number that the faults have: {faults_line}{may_mean}");
 }

@@ -44,6 +44,8 @@ pub struct Verdict {
     pub faults: [u32; 6],
     /// Which sort of number each fault 2 names; none with a refusal but 8.
     pub sorts: Sorts,
+    /// The line number in the Rust's faults; 0 where there is none, or a refusal but 8.
+    pub faults_line: u64,
     /// Something about the Rust that 01 doesn't have.
     pub finding: Option<&'static str>,
 }
@@ -73,6 +75,7 @@ impl Oracle {
             panicked_at: 0,
             faults: [0; 6],
             sorts: Sorts::default(),
+            faults_line: 0,
             finding: None,
         };
         self.page.clear();
@@ -190,6 +193,7 @@ impl Oracle {
                     if context.number != input.number {
                         verdict.finding = Some("a fault with another line number");
                     }
+                    verdict.faults_line = context.number as u64;
                     if number == 2 && !verdict.sorts.note(at, &error.text) {
                         verdict.finding = Some("a fault 2 that names no sort of number");
                     }

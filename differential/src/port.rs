@@ -16,16 +16,20 @@ const REQUEST: usize = 4096;
 const HEAD: usize = 40;
 /// The bit of the options word where the task begins.
 const TASK: u32 = 32;
-/// The bytes of a reply: what each of the four calls answered, the sorts of the faults, a word
-/// each, and the output.
+/// The bytes of a reply: what each of the four calls answered, the sorts of the faults and their
+/// line number, a word each, and the output.
 const REPLY: usize = TOLD + OUTPUT;
-const TOLD: usize = 40;
+const TOLD: usize = 48;
 /// More than is ever lent, so that a byte written behind the lent ones shows.
 pub const OUTPUT: usize = 4160;
 /// What every byte of the output is before the calls.
 pub const UNWRITTEN: u8 = 0xC5;
 /// The first word of a reply, if the record was to be written and the line was refused.
 pub const NOT_READ: u64 = u64::MAX - 1;
+/// A reply's line number of the faults, if two have different ones, or one another kind than the
+/// line.
+pub const LINES_DIFFER: u64 = u64::MAX;
+pub const KIND_DIFFERS: u64 = u64::MAX - 1;
 /// The longest line that has room in a request beside every table.
 pub const LONGEST: usize = 2000;
 
@@ -34,6 +38,7 @@ pub struct Answer<'a> {
     pub written: u64,
     pub refusal: Refusal,
     pub sorts: Sorts,
+    pub faults_line: u64,
     pub output: &'a [u8],
 }
 
@@ -101,6 +106,7 @@ impl Port {
             written: word(0),
             refusal: Refusal { number: number(1), place: number(2), length: number(3) },
             sorts: Sorts(word(4)),
+            faults_line: word(5),
             output: &reply[TOLD..],
         }
     }

@@ -288,6 +288,27 @@ fn sorts() {
 }
 
 #[test]
+fn line_numbers_of_faults() {
+    let mut input = Input::new();
+    let mut told = |line: &str, number: usize, room: usize| {
+        input.line = line.as_bytes().to_vec();
+        input.number = number;
+        input.room = room;
+        let verdict = Oracle::new().answer(&input, &tables());
+        assert_eq!(verdict.finding, None);
+        verdict.faults_line
+    };
+    assert_eq!(told("MODEL 5", 7, 4096), 0);
+    assert_eq!(told("MODEL x", 7, 4096), 7);
+    assert_eq!(told(&padded("ANISOU", 7), usize::MAX, 4096), u64::MAX);
+    // The faults of the line with `x` for what the Rust reads and 01 doesn't.
+    assert_eq!(told("ORIGX2    1e5       0         0              0         ", 8, 4096), 8);
+    // Of the refusals only that of a small output leaves faults.
+    assert_eq!(told("MODEL x", 9, 0), 9);
+    assert_eq!(told(&padded("CRYST1", 54), 9, 4096), 0);
+}
+
+#[test]
 fn the_crates_table_has_42_numbers() {
     let own = tables::crates_own();
     assert_eq!(own.iter().filter(|byte| **byte != 0).count(), 42);

@@ -45,7 +45,10 @@ pub fn wrong(wanted: &Wanted, answer: &Answer) -> Option<&'static str> {
         _ if output[line.len()..] != [UNWRITTEN; OUTPUT][line.len()..] => {
             Some("the output behind a written line, or that of a refused record")
         }
-        _ if answer.refusal != Refusal::default() || answer.sorts != Sorts::default() => {
+        _ if answer.refusal != Refusal::default()
+            || answer.sorts != Sorts::default()
+            || answer.faults_line != 0 =>
+        {
             Some("the words behind the answer")
         }
         _ => None,

@@ -7,13 +7,13 @@ use lib.ListN.{length}
 use lib.Dec.{ltb, leb, eqb}
 use Rattle.number.specs.Trim.{kept}
 use Rattle.kind.specs.declared.Kind.{Kind}
-use Rattle.line.specs.Faults.{noFaults}
 use Rattle.line.specs.Given.{Given}
 use Rattle.lexitem.specs.declared.answer.Answer.{Answer}
 use Rattle.lexitem.specs.declared.answer.Outcome.the-variants.{Accepted, Refused}
 use Rattle.lexitem.specs.declared.answer.Refusal.{Refusal}
 use Rattle.lexitem.specs.Answer.{refusal}
 use Rattle.lexitem.specs.Describe.{boundOf}
+use Rattle.lexitem.specs.Fault.{noLineFaults, stampedAs}
 use Rattle.lexitem.specs.Read.{gotItem}
 use Rattle.lexitem.specs.declared.bound.Bound.{Bound}
 use Rattle.lexitem.specs.declared.bound.Bound.the-variants as bound
@@ -55,12 +55,12 @@ ownRefusal (bound.Least n) l loose = leastRefusal n l
 ownRefusal bound.Free l loose = noRefusal
 
 abbrev pub refusedWith : ℕ → Refusal → Answer
-refusedWith line r = record { line = line; outcome = Refused r; faults = noFaults }
+refusedWith line r = record { line = line; outcome = Refused r; faults = noLineFaults }
 
-abbrev pub answerOf : ℕ → GotItem → Answer
-answerOf line x = record { line = line; outcome = Accepted (x .value); faults = x .faults }
+abbrev pub answerOf : ℕ → Kind → GotItem → Answer
+answerOf line k x = record { line = line; outcome = Accepted (x .value); faults = stampedAs line k (x .faults) }
 
 unfoldable pub readAs : ℕ → Kind → Given → Answer
 readAs line k g =
     let own = ownRefusal (boundOf k) (g .line) (g .options .loose) in
-    cond (eqb (own .number) 0) (answerOf line (gotItem k g)) (refusedWith line own)
+    cond (eqb (own .number) 0) (answerOf line k (gotItem k g)) (refusedWith line own)

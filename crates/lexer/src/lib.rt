@@ -17,9 +17,9 @@ use lexitem::answer::Answer;
 use lexitem::answer::Outcome;
 use lexitem::answer::Refusal;
 use lexitem::bound::bound_of;
+use lexitem::fault::LineFaults;
 use lexitem::read::GotItem;
 use lexitem::read::lex_as;
-use line::fault::Faults;
 use line::options::Options;
 
 // The highest byte of a line, 0 if it has none. The loop has no way out, so that many bytes go at once.
@@ -107,37 +107,39 @@ fn refuse(line: usize, refusal: Refusal) -> Answer
     Answer {
         line,
         outcome: Outcome::Refused(refusal),
-        faults: Faults::none(),
+        faults: LineFaults::none(),
     }
 }
 
-// A record with its faults, all of which the list holds.
-fn accept(line: usize, got: GotItem) -> Answer
-    ensures { λ r. ⌜ r ≡ steps.answerOf line got ⌝ }
+// A record with its faults, each of which gets the line's number and kind here.
+fn accept(line: usize, kind: Kind, got: GotItem) -> Answer
+    ensures { λ r. ⌜ r ≡ steps.answerOf line kind got ⌝ }
 {
     let faults = got.faults;
     let item = got.value;
     Answer {
         line,
         outcome: Outcome::Accepted(item),
-        faults,
+        faults: LineFaults::of(line, kind, faults),
     }
 }
 
 // Nearly every line of a file is an atom. Apart from the readers of all other kinds, which are large, reading one can stand where it is asked for.
 fn lex_kind(number: usize, kind: Kind, line: &[u8], options: Options, remarks: &[u8]) -> Answer
-    ensures { λ r. ⌜ r ≡ steps.answerOf number (gotItem kind (record { line = now (line .entry); options = options; remarks = now (remarks .entry) })) ⌝ }
+    ensures { λ r. ⌜ r ≡ steps.answerOf number kind (gotItem kind (record { line = now (line .entry); options = options; remarks = now (remarks .entry) })) ⌝ }
 {
     match kind {
         Kind::Atom => accept(
             number,
+            kind,
             GotItem::atom(lex_atom(line, false, options.exponents)),
         ),
         Kind::Hetatm => accept(
             number,
+            kind,
             GotItem::atom(lex_atom(line, true, options.exponents)),
         ),
-        _ => accept(number, lex_as(kind, line, options, remarks)),
+        _ => accept(number, kind, lex_as(kind, line, options, remarks)),
     }
 }
 

@@ -3,3 +3,4 @@ pub mod Describe
 pub mod Shown
 pub mod Read
 pub mod Answer
+pub mod Fault

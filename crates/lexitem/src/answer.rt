@@ -1,7 +1,7 @@
 // What lexing a line answers.
 ghost use mathlib.Core.Path.{_≡_};
+use crate::fault::LineFaults;
 use crate::item::LexItem;
-use line::fault::Faults;
 
 // A refusal by document 01's number, with its place and length.
 pub struct Refusal {
@@ -31,5 +31,5 @@ pub enum Outcome {
 pub struct Answer {
     pub line: usize,
     pub outcome: Outcome,
-    pub faults: Faults,
+    pub faults: LineFaults,
 }

@@ -8,7 +8,7 @@ use lib.ListN.{length, drop}
 use lib.Dec.{leb}
 use Rattle.lexer.specs.Lexed.{lexed}
 use Rattle.lexer.specs.Refusals.{Input}
-use Rattle.line.specs.Faults.{listed}
+use Rattle.lexitem.specs.Fault.{told, faultsIn}
 use Rattle.lexitem.specs.declared.answer.Outcome.{Outcome}
 use Rattle.lexitem.specs.declared.answer.Outcome.the-variants as outcome
 use Rattle.lexitem.specs.declared.item.LexItem.{LexItem}
@@ -32,7 +32,7 @@ pub record Fitted (before listing : List ℕ) (r : Listed) (after : List ℕ) : 
 -- ---- a line on lent bytes
 -- the listing of a line that is accepted with an item
 abbrev pub listingBy : Input → LexItem → List ℕ
-listingBy i item = listingOf (i .number) (i .line) item (listed (lexed i .faults))
+listingBy i item = listingOf (i .number) (i .line) item (faultsIn (told (lexed i .faults)))
 
 -- what is answered where there is so much room
 abbrev pub listedAnswer : ℕ → Input → Outcome → Listed

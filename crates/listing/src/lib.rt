@@ -1,7 +1,7 @@
 // `list_line`: a line's listing into lent bytes. One emitter puts it, once on a byte of its own to measure it, and
 // then, if it fits, on the lent bytes. So lent bytes that are too few stay as they are.
 ghost use mathlib.Core.Path.{_≡_};
-ghost use Prim.Native.Nat.{_≤_, _<_, _^_};
+ghost use Prim.Native.Nat.{_≤_};
 ghost use lib.ListN.{length, take};
 ghost use Rattle.listing.specs.Listed as into;
 ghost use Rattle.listing.specs.Listing as specs;
@@ -25,6 +25,9 @@ use lexitem::item::rows_of;
 use line::fault::Fault;
 use line::fault::Faults;
 use line::options::Options;
+
+// No listing has more bytes.
+const LONGEST: usize = 4096;
 
 // The head of a listing, the record's name being the first so many bytes of a text.
 fn put_front(out: &mut [u8], at: usize, text: [u8; 6], n: usize, number: usize) -> usize
@@ -78,7 +81,7 @@ fn measure(
     count: usize,
     room: usize,
 ) -> Listed
-    requires { ⌜ (count ≤ 15) × (length (specs.listingOf number (now line) item (take count faults)) < 2 ^ 64) ⌝ }
+    requires { ⌜ (count ≤ 15) × (length (specs.listingOf number (now line) item (take count faults)) ≤ specs.longest) ⌝ }
     ensures { λ r. ⌜ r ≡ into.fittedAnswer room (specs.listingOf number (now (line .entry)) item (take count faults)) ⌝ }
 {
     let mut one = [0u8; 1];
@@ -89,7 +92,7 @@ fn measure(
     Listed::Written(needed)
 }
 
-// Measures the listing, and writes it if it fits.
+// Measures the listing, and writes it if it fits. Where there is room for the longest it needn't be measured.
 fn fit(
     line: &[u8],
     number: usize,
@@ -98,9 +101,12 @@ fn fit(
     count: usize,
     out: &mut [u8],
 ) -> Listed
-    requires { ⌜ (count ≤ 15) × (length (specs.listingOf number (now line) item (take count faults)) < 2 ^ 64) ⌝ }
+    requires { ⌜ (count ≤ 15) × (length (specs.listingOf number (now line) item (take count faults)) ≤ specs.longest) ⌝ }
     ensures { λ r. ⌜ into.Fitted (now (out .entry)) (specs.listingOf number (now (line .entry)) item (take count faults)) r (now (out .exit)) ⌝ }
 {
+    if LONGEST <= out.len() {
+        return Listed::Written(put_listing(out, 0, line, number, item, faults, count));
+    }
     match measure(line, number, item, faults, count, out.len()) {
         Listed::Refused(refusal) => Listed::Refused(refusal),
         Listed::Written(_) => Listed::Written(put_listing(

@@ -103,7 +103,7 @@ pub fn put_unsigned(out: &mut [u8], at: usize, n: u64) -> usize
 }
 
 // How far a number is from zero: for one below, one more than the distance of the next, which fits.
-fn magnitude(n: i64) -> u64
+pub fn magnitude(n: i64) -> u64
     ensures { λ r. ⌜ r ≡ natAbs n ⌝ }
 {
     if n < 0 {

@@ -9,7 +9,8 @@ use lib.ListN.{length, replicate}
 use lib.IntN.{pos, negℤ}
 use lib.Ieee.{Float, binary64, ofBits}
 use Rattle.line.specs.Bytes.{bytes}
-use Rattle.line.specs.Faults.{numberOf, listed}
+use Rattle.line.specs.Faults.{numberOf}
+use Rattle.lexitem.specs.Fault.{told, faultsIn}
 use Rattle.lexitem.specs.declared.answer.Answer.{Answer}
 use Rattle.line.specs.Options.{plain}
 use Rattle.line.specs.declared.options.Mode.{Mode}
@@ -64,7 +65,7 @@ pub data Claim : Type 1 where
 abbrev pub Found : Answer → Claim → Type 0
 Found a (is x) = a .outcome ≡ Accepted x
 Found a (field {A} make get value) = (x : A) × (a .outcome ≡ Accepted (make x)) × (get x ≡ value)
-Found a (faults fs) = map toldBy (listed (a .faults)) ≡ fs
+Found a (faults fs) = map toldBy (faultsIn (told (a .faults))) ≡ fs
 Found a (count n) = a .faults .count ≡ n
 Found a (refused number place length) = numbersOf (a .outcome) ≡ (number, place, length)
 

@@ -3,6 +3,8 @@
 pub mod Face
 pub mod Ask
 pub mod Places
+pub mod Words
+pub mod Read
 pub mod One
 pub mod Write
 pub mod Matrix

@@ -3,6 +3,10 @@ pub mod Face
 pub mod Packed
 pub mod Ask
 pub mod Places
+pub mod Put
+pub mod Fields
+pub mod Faults
+pub mod Read
 pub mod Write
 pub mod Matrix
 pub mod Check

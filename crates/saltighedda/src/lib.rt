@@ -1,6 +1,7 @@
-// What C hosts call: the listing of a line over numbers and byte slices alone, in `ask` which kind a line is, in `places` how many decimals were
-// written, in `write` the lines that are written, in `transform` the positions that are moved, in `check` a file that is held against its
-// MASTER line, and in `mending` a line that is mended. In C a slice is a pointer and a length, as include/saltighedda.h has it.
+// What C hosts call: the listing of a line over numbers and byte slices alone, in `ask` which kind a line is, in `read` its fields and faults as
+// words, in `places` how many decimals were written, in `write` the lines that are written, in `transform` the positions that are moved, in
+// `check` a file that is held against its MASTER line, and in `mending` a line that is mended. In C a slice is a pointer and a length, as
+// include/saltighedda.h has it.
 // Three of the calls tell of a refusal; they take the lent bytes of the first, and only their number counts.
 ghost use mathlib.Core.Path.{_≡_};
 ghost use Rattle.saltighedda.specs.Face as specs;
@@ -10,7 +11,10 @@ pub mod check;
 pub mod mending;
 mod packing;
 pub mod places;
+pub mod read;
 pub mod transform;
+mod word;
+mod words;
 pub mod write;
 
 use lexitem::answer::Refusal;

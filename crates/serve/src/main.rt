@@ -1,7 +1,7 @@
-// Answers over pipes what the four entries of `saltighedda` answer, for a host on a processor that can't call them, and what no entry says:
-// the sort of number that the columns of a fault 2 should have held, and what `write_record` and `write_as_read` make of the record that was
-// read. Standard input comes in blocks of 15 requests of 4,096 bytes; for each block 15 replies of 4,200 bytes are written to standard output
-// at once. The program ends when the input ends or a write fails, and a block that isn't whole is not answered.
+// Answers over pipes what the four entries of `saltighedda` that list a line answer, for a host on a processor that can't call them; what
+// `saltighedda_read` says of its faults and no listing shows; and what `write_record` and `write_as_read` make of the record that was read.
+// Standard input comes in blocks of 15 requests of 4,096 bytes; for each block 15 replies of 4,208 bytes are written to standard output at
+// once. The program ends when the input ends or a write fails, and a block that isn't whole is not answered.
 //
 // Both begin with words of eight bytes, the lowest first:
 //
@@ -10,18 +10,20 @@
 //      8  the options, and the task in bits 32, 33      8  saltighedda_list_refusal
 //     16  the length of the line                       16  saltighedda_list_place
 //     24  the length of the remark table               24  saltighedda_list_length
-//     32  the room                                     32  the sorts of the faults that `lex_line` answered
-//     40  the line, and directly behind it the table   40  4,160 bytes of output
+//     32  the room                                     32  the sorts of the faults that saltighedda_read told
+//     40  the line, and directly behind it the table   40  the line number that these faults have
+//                                                      48  4,160 bytes of output
 //
 // A sort is 1 for unsigned, 2 for signed, 3 for real, and 0 for a fault that isn't a 2 or where there is none. There are at most fifteen
-// faults, and each has two bits of the word, the first fault the lowest; the upper half of the word is 0.
+// faults, and each has two bits of the word, the first fault the lowest; the upper half of the word is 0. The line number is 0 if there is no
+// fault, 2^64-1 if two have different ones, and 2^64-2 if one has another kind of record than the line.
 //
 // The options are the low 32 bits of their word. If bit 32 is 0 the line is listed, and if it is 1 its record is written, by `write_record`
 // with no places asked if bit 33 is 0, and by `write_as_read` if it is 1; the bits above have no effect. To write, the line is read with the
 // options, and unless it is refused, its record goes out into the lent output. One blank stands in for a character that the line doesn't reach,
 // and the atom's name that is lent are the line's bytes in 12..16, or four blanks where it has under 16. The reply's first word is 0 if a line
 // was written, else the record's refusal as the entries for C pack it (number * 2^48 + place * 2^32 + length), or 2^64-2 if the line was refused.
-// The four words behind it are 0.
+// The five words behind it are 0.
 //
 // The output is all 0xC5 before the calls, and as many of its bytes as there is room are lent to them. So the asker sees each byte as it
 // was left, also behind what was lent. If the line and the table don't fit into their request, or the room is over 4,096, nothing is
@@ -34,11 +36,9 @@ use lexitem::answer::Outcome;
 use lexitem::item::LexItem;
 use libc::STDIN_FILENO;
 use libc::STDOUT_FILENO;
-use line::fault::Fault;
-use line::fault::FaultKind;
 use line::fault::Faults;
-use line::fault::Sort;
 use saltighedda::options_of;
+use saltighedda::read::saltighedda_read;
 use saltighedda::saltighedda_list;
 use saltighedda::saltighedda_list_length;
 use saltighedda::saltighedda_list_place;
@@ -52,7 +52,7 @@ const REQUESTS: usize = 15;
 
 const REQUEST: usize = 4096;
 
-const REPLY: usize = 4200;
+const REPLY: usize = 4208;
 
 const BLOCK: usize = REQUESTS * REQUEST;
 
@@ -84,7 +84,9 @@ const LENGTH: usize = 24;
 
 const SORTS: usize = 32;
 
-const OUTPUT: usize = 40;
+const FAULTS_LINE: usize = 40;
+
+const OUTPUT: usize = 48;
 
 // Every listing has room in so much. The output has 64 bytes more, which are never lent.
 const MOST_ROOM: usize = 4096;
@@ -94,6 +96,19 @@ const MARK: u8 = 0xC5;
 const NOT_CALLED: usize = usize::MAX;
 
 const NOT_READ: usize = usize::MAX - 1;
+
+// A line of any kind is to be read.
+const ANY: u32 = 4294967295;
+
+// How many words the fields of a line and its faults take at most.
+const FIELD_WORDS: usize = 34;
+
+const FAULT_WORDS: usize = 1 + 2 * Faults::MOST;
+
+// What stands for the faults' line number, if they don't have the same, or if one hasn't the line's kind.
+const LINES_DIFFER: u64 = u64::MAX;
+
+const KIND_DIFFERS: u64 = u64::MAX - 1;
 
 // The bits of the options word that say the task: whether to write, and whether with the places that were read.
 const TASK: usize = 4294967296;
@@ -111,6 +126,13 @@ struct Told {
     place: usize,
     length: usize,
     sorts: usize,
+    faults_line: usize,
+}
+
+// What the words of a line's faults say.
+struct FaultsTold {
+    sorts: usize,
+    line: usize,
 }
 
 fn wide(byte: u8) -> usize {
@@ -149,35 +171,52 @@ fn mark(bytes: &mut [u8]) {
     }
 }
 
-fn sort_of(kind: FaultKind) -> usize {
-    let FaultKind::Wrong(sort) = kind else {
-        return 0;
-    };
-    match sort {
-        Sort::Unsigned => 1,
-        Sort::Signed => 2,
-        Sort::Real => 3,
-    }
-}
-
-// What fills the places without a fault names no sort either, so that nothing has to be counted.
-fn word_of(faults: [Fault; Faults::MOST]) -> usize {
+// The words behind the last fault are 0 and name no sort either, so that nothing has to be counted.
+fn sorts_of(faults: [u64; FAULT_WORDS]) -> usize {
     let mut n = 0;
     let mut i = Faults::MOST;
     while 0 < i {
         i -= 1;
-        let fault = faults[i];
-        let kind = fault.kind;
-        n = n << 2 | sort_of(kind);
+        let sort = faults[2 * i + 2] / 65536 % 4;
+        n = n << 2 | sort as usize;
     }
     n
 }
 
-fn sorts_of(line: &[u8], number: usize, options: u32, remarks: &[u8]) -> usize {
-    let answer: Answer = lex_line(line, number, options_of(options), remarks);
-    let faults = answer.faults;
-    let list = faults.list;
-    word_of(list)
+// Without a fault the first one's words are 0, and so is the line number.
+fn line_of(kind: u64, faults: [u64; FAULT_WORDS]) -> u64 {
+    let count = faults[0];
+    let first = faults[1];
+    let mut i = 0;
+    while i < Faults::MOST && (i as u64) < count {
+        if faults[2 * i + 1] != first {
+            return LINES_DIFFER;
+        }
+        if faults[2 * i + 2] % 256 != kind {
+            return KIND_DIFFERS;
+        }
+        i += 1;
+    }
+    first
+}
+
+// A refused line leaves all words 0.
+fn read_faults(line: &[u8], number: usize, options: u32, remarks: &[u8]) -> FaultsTold {
+    let mut fields = [0u64; FIELD_WORDS];
+    let mut faults = [0u64; FAULT_WORDS];
+    saltighedda_read(
+        line,
+        number,
+        options,
+        remarks,
+        ANY,
+        &mut fields,
+        &mut faults,
+    );
+    FaultsTold {
+        sorts: sorts_of(faults),
+        line: line_of(fields[0], faults) as usize,
+    }
 }
 
 // The three that mustn't write come first: what they wrote would show wherever nothing is listed.
@@ -186,13 +225,14 @@ fn ask(line: &[u8], number: usize, options: u32, remarks: &[u8], out: &mut [u8])
     let place = saltighedda_list_place(line, number, options, remarks, out);
     let length = saltighedda_list_length(line, number, options, remarks, out);
     let written = saltighedda_list(line, number, options, remarks, out);
-    let sorts = sorts_of(line, number, options, remarks);
+    let faults = read_faults(line, number, options, remarks);
     Told {
         written,
         refusal,
         place,
         length,
-        sorts,
+        sorts: faults.sorts,
+        faults_line: faults.line,
     }
 }
 
@@ -255,6 +295,7 @@ fn write(
         place: 0,
         length: 0,
         sorts: 0,
+        faults_line: 0,
     }
 }
 
@@ -268,19 +309,20 @@ fn tell(line: &[u8], number: usize, options: usize, remarks: &[u8], out: &mut [u
 }
 
 fn put_told(reply: &mut [u8], told: Told)
-    requires { ⌜ 40 ≤ length (now reply) ⌝ }
+    requires { ⌜ 48 ≤ length (now reply) ⌝ }
 {
     put_word(reply, WRITTEN, told.written);
     put_word(reply, REFUSAL, told.refusal);
     put_word(reply, PLACE, told.place);
     put_word(reply, LENGTH, told.length);
     put_word(reply, SORTS, told.sorts);
+    put_word(reply, FAULTS_LINE, told.faults_line);
 }
 
 // A reply says that nothing was called until something is. The lengths are tested before they are added, so no sum is too large.
 fn answer(request: &[u8], reply: &mut [u8])
     requires { ⌜ 4096 ≤ length (now request) ⌝ }
-    requires { ⌜ 4200 ≤ length (now reply) ⌝ }
+    requires { ⌜ 4208 ≤ length (now reply) ⌝ }
 {
     put_word(reply, WRITTEN, NOT_CALLED);
     let line = word(request, LINE_LENGTH);

@@ -3,7 +3,8 @@
 --     accepted-item      so its record is that of its kind
 --     accepted-line      it has at most 1,024 bytes
 --     accepted-count     its faults are counted
---     accepted-faults    and listed, in their order: at most fifteen, so that the list holds them all
+--     accepted-told      and listed, in their order, each with the line's number and kind
+--     accepted-faults    with the columns that the kind's table gives them
 -- Assumes nothing.
 use Prim.Native.Nat.{_≤_}
 use mathlib.Core.Path.{_≡_, refl, sym, ap, _∙_}
@@ -12,16 +13,18 @@ use mathlib.Core.List.{List, [], _∷_}
 use borrow.Author.Tests.{ltb-false}
 use lib.ListN.{length, take, drop}
 use Rattle.lexitem.specs.Describe.{itemOf}
+use Rattle.lexitem.specs.Fault.{stamped, stampedAs, told, faultsIn}
 use Rattle.lexer.specs.Lexed.{refused, accepted, firstOf, lexed}
 use Rattle.lexer.specs.Refusals.{Input, Test, tests, kind, given, faults}
 use Rattle.lexer.specs.Refusals.Asking.{itsRecord}
-use Rattle.line.specs.Faults.{listed}
 use Rattle.lexitem.specs.declared.answer.Answer.{Answer}
 use Rattle.lexitem.specs.declared.answer.Outcome.the-variants.{Accepted}
 use Rattle.lexitem.specs.declared.answer.Refusal.{Refusal}
 use Rattle.lexitem.specs.declared.item.LexItem.{LexItem}
+use Rattle.line.specs.Faults.{noFaults, allNoted}
 use Rattle.line.proofs.Laws.Faults.{noted-exact, noted-listed}
 use Rattle.lexitem.proofs.Laws.Few.{faults-fifteen}
+use Rattle.lexitem.proofs.Laws.Fault.{told-stamped, in-stamped}
 
 module _ (i : Input) (x : LexItem) where
   test-failed : (b : Bool) (r : Refusal) (else : Answer) → cond b (refused i r) else .outcome ≡ Accepted x → b ≡ false
@@ -54,7 +57,12 @@ module _ (i : Input) (x : LexItem) where
         (test-failed _ _ (firstOf (refused i) (drop 2 (tests itsRecord i)) (accepted i)) (ap (λ (a : Answer). a .outcome) (sym on) ∙ yes))
 
     pub accepted-count : lexed i .faults .count ≡ length (faults i)
+    unfolding stampedAs
     accepted-count = rw accepted-answer (noted-exact (faults i) (faults-fifteen (kind i) (given i)))
 
-    pub accepted-faults : listed (lexed i .faults) ≡ faults i
-    accepted-faults = rw accepted-answer (noted-listed (faults i) (faults-fifteen (kind i) (given i)))
+    pub accepted-told : told (lexed i .faults) ≡ stamped (i .number) (kind i) (faults i)
+    accepted-told =
+        rw (accepted-answer, told-stamped (i .number) (kind i) (allNoted noFaults (faults i)), noted-listed (faults i) (faults-fifteen (kind i) (given i))) refl
+
+    pub accepted-faults : faultsIn (told (lexed i .faults)) ≡ faults i
+    accepted-faults = rw accepted-told (in-stamped (i .number) (kind i) (faults i))

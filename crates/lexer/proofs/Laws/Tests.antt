@@ -83,7 +83,7 @@ own-first bound.Free l loose = refl
 
 module _ (i : Input) where
   -- what is accepted, with its faults as they were noted
-  accepted-got : accepted i ≡ answerOf (i .number) (gotItem (kind i) (given i))
+  accepted-got : accepted i ≡ answerOf (i .number) (kind i) (gotItem (kind i) (given i))
   unfolding faultsOf
   accepted-got = rw (table-noted (given i) (fieldsBy (kind i) (given i)) noFaults) refl
 

@@ -36,10 +36,10 @@ accept-requires-3 : tie.Need-accept-requires-3
 accept-requires-3 c κs = search needs
 
 returns : tie.Need-returns
-returns c = rw (c .before .before .before .enum-told .given .1, c .accept .ensures, c .before .atom .ensures, c .before .before .lex-atom .ensures) refl
+returns c = rw (c .accept .ensures, c .before .atom .ensures, c .before .before .lex-atom .ensures, c .before .before .before .enum-told .given .1) refl
 
 returns-2 : tie.Need-returns-2
-returns-2 c = rw (c .before .before .before .enum-told2 .given .1, c .accept2 .ensures, c .before .atom2 .ensures, c .before .before .lex-atom2 .ensures) refl
+returns-2 c = rw (c .accept2 .ensures, c .before .atom2 .ensures, c .before .before .lex-atom2 .ensures, c .before .before .before .enum-told2 .given .1) refl
 
 returns-3 : tie.Need-returns-3
 returns-3 c = rw (c .accept3 .ensures, c .before .lex-as .ensures) refl

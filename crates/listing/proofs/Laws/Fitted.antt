@@ -1,6 +1,7 @@
 -- What a listing leaves on lent bytes. It is measured first, by a put on other bytes.
 --     measured-no, measured-yes     what is answered by its length: too long, and short enough
 --     fitted-no, fitted-yes         what is left then on the lent bytes
+--     fits                          what was measured short enough has room
 -- Assumes nothing.
 use Prim.Native.Nat.{ℕ, _^_, _≤_, _<_}
 use mathlib.Core.Path.{_≡_, refl, sym, ap, _∙_}
@@ -14,11 +15,12 @@ use Rattle.lexitem.specs.declared.answer.Refusal.{Refusal}
 use Rattle.page.specs.Page.{Page, page, put}
 use Rattle.page.proofs.Laws.Page.{put-count, put-front}
 use Rattle.listing.specs.Listed.{Fitted, fittedAnswer, fittedBytes}
+use Rattle.listing.specs.Listing.{longest}
 use Rattle.listing.specs.declared.Listed.the-variants.{Written, Refused}
 
-module _ (room : ℕ) (listing : List ℕ) (short : length listing < 2 ^ 64) (one mark : List ℕ) (n : ℕ) (e : page mark n ≡ put (page one 0) listing) where
+module _ (room : ℕ) (listing : List ℕ) (short : length listing ≤ longest) (one mark : List ℕ) (n : ℕ) (e : page mark n ≡ put (page one 0) listing) where
   counted : n ≡ length listing
-  counted = ap (λ (p : Page). p .at) e ∙ put-count one listing short
+  counted = ap (λ (p : Page). p .at) e ∙ put-count one listing (omega arith)
 
   pub measured-no : room < n → Refused (record { number = 8; place = 0; length = n }) ≡ fittedAnswer room listing
   measured-no h = let m = counted in rw (lt-leb (length listing) room (omega arith), m) refl
@@ -42,12 +44,15 @@ is-short : (b : Bool) (k n : ℕ) (x : Refusal) → Written k ≡ cond b (Writte
 is-short true k n x e = refl
 is-short false k n x e = cc
 
-module _ (before listing : List ℕ) (short : length listing < 2 ^ 64) (k : ℕ) (e : Written k ≡ fittedAnswer (length before) listing) where
-  pub fitted-yes : (after : List ℕ) (r : ℕ) → length before < 2 ^ 64 → page after r ≡ put (page before 0) listing → Fitted before listing (Written r) after
-  fitted-yes after r room f =
-      let yes = is-short (leb (length listing) (length before)) k (length listing) _ e in
-      let h = leb-true (length listing) (length before) yes in
-      record {
-        answer = rw yes (ap Written (ap (λ (p : Page). p .at) f ∙ put-count before listing short));
-        bytes = rw yes (ap (λ (p : Page). p .bytes) f ∙ put-front before listing room (omega arith));
-      }
+pub fits : (before listing : List ℕ) (k : ℕ) → Written k ≡ fittedAnswer (length before) listing → length listing ≤ length before
+fits before listing k e =
+    leb-true (length listing) (length before) (is-short (leb (length listing) (length before)) k (length listing) _ e)
+
+pub fitted-yes : (before listing : List ℕ) → length listing ≤ length before → length before < 2 ^ 64
+    → (after : List ℕ) (r : ℕ) → page after r ≡ put (page before 0) listing → Fitted before listing (Written r) after
+fitted-yes before listing h room after r f =
+    let yes = le-leb (length listing) (length before) h in
+    record {
+      answer = rw yes (ap Written (ap (λ (p : Page). p .at) f ∙ put-count before listing (omega arith)));
+      bytes = rw yes (ap (λ (p : Page). p .bytes) f ∙ put-front before listing room (omega arith));
+    }

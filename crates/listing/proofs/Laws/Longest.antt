@@ -14,7 +14,8 @@ use Rattle.line.specs.Bytes.{bytes}
 use Rattle.kind.specs.declared.Kind.{Kind}
 use Rattle.lexer.specs.Lexed.{lexed}
 use Rattle.lexer.specs.Refusals.{Input, kind, given}
-use Rattle.line.specs.Faults.{numberOf, listed}
+use Rattle.line.specs.Faults.{numberOf}
+use Rattle.lexitem.specs.Fault.{told, faultsIn}
 use Rattle.line.specs.Given.{Given}
 use Rattle.lexitem.specs.declared.answer.Outcome.the-variants.{Accepted}
 use Rattle.line.specs.declared.fault.Fault.{Fault}
@@ -94,5 +95,5 @@ listing-most n l x fs room h few =
 pub listing-longest : (i : Input) (x : LexItem) → lexed i .outcome ≡ Accepted x → length (listingBy i x) ≤ longest
 listing-longest i x e =
     let room = kind-room (kind i) (given i) (accepted-line i x e) in
-    let all = listing-most (i .number) (i .line) (itemOf (kind i) (given i)) (listed (lexed i .faults)) 3091 (omega arith) (rw (accepted-faults i x e) (faults-fifteen (kind i) (given i))) in
+    let all = listing-most (i .number) (i .line) (itemOf (kind i) (given i)) (faultsIn (told (lexed i .faults))) 3091 (omega arith) (rw (accepted-faults i x e) (faults-fifteen (kind i) (given i))) in
     rw (accepted-item i x e) (omega arith)

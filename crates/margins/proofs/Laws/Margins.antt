@@ -100,7 +100,7 @@ module _ (i : Input) (m : List ℕ) (d : Differ i m) where
       cc
 
   accepted-same : accepted i ≡ accepted (withLine i m)
-  accepted-same = rw (faults-same, items-same) refl
+  accepted-same = rw (faults-same, items-same, kinds-same) refl
 
   pub margins : lexed i ≡ lexed (withLine i m)
   unfolding lexed

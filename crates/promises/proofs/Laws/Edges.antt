@@ -30,6 +30,7 @@ use Rattle.seqadv.specs.Seqadv.{blanks, hasTarget}
 use Rattle.seqres.specs.Seqres.{blankTriple, triplesFrom}
 use Rattle.kind.specs.Kind.{kindOf}
 use Rattle.lexitem.specs.Describe.{faultsOf}
+use Rattle.lexitem.specs.Fault.{stampedAs, told}
 use Rattle.lexer.specs.Refusals.{plain}
 use Rattle.lexer.specs.Lexed.{lexed}
 use Rattle.promises.specs.Edges.{Case, ClaimsFound, CasesFound, answerTo, casesWith, edges, exponents}
@@ -46,7 +47,7 @@ unfolding
     white leading kept endTrimmed trimmed spanOf digit digits valueFrom begins afterPlus afterSign digitsOf unsignedOf signedDigits signedOf
     beforePoint behindPoint withoutPoint plainOf decimalOf doubleOf realOf tenThousandth tenThousandthsOf div neg ofInt ofBits
     mark markAt markedParts markedIn markedOf wideOf nearestTo realWith round
-    partOf reachedOf restOf noFaults noted listed
+    partOf reachedOf restOf noFaults noted listed stampedAs told
     numberFaults unsignedAt signedAt realAt placesAt factorAt unsignedFrom unsignedFromFaults
     textAt textFaults textWithin textFrom endTextFrom characterAt optionalAt characterFaults
     bothBlank charged chargeOf chargeFaultsOf chargeAt chargeFaults isKnown knownFaults

@@ -24,7 +24,7 @@ use Rattle.real.proofs.Laws.Tells.{wide-tells, near-finite}
 use Rattle.real.proofs.Laws.WideReal.{with-said, said-finer, over-plain}
 use Rattle.number.specs.declared.wide.Wide.the-variants.{W}
 use Rattle.line.specs.Columns.{partOf}
-use Rattle.line.specs.Faults.{listed}
+use Rattle.lexitem.specs.Fault.{told, faultsIn}
 use Rattle.lexitem.specs.declared.answer.Outcome.the-variants.{Accepted}
 use Rattle.lexitem.specs.declared.item.LexItem.{LexItem}
 use Rattle.field.specs.Table.{Entry, tableFaults}
@@ -50,7 +50,7 @@ onIn i = i .options .exponents
 
 module _ (i : Input) where
   module _ (item : LexItem) (yes : lexed i .outcome ≡ Accepted item) where
-    line-faults : listed (lexed i .faults) ≡ tableFaults (given i) (tableIn i)
+    line-faults : faultsIn (told (lexed i .faults)) ≡ tableFaults (given i) (tableIn i)
     unfolding faultsOf
     line-faults = accepted-faults i item yes
 
@@ -62,10 +62,10 @@ module _ (i : Input) where
           → Told (onIn i) (f .form) s m p lower x (readIn (onIn i) (i .line) f) (f .value)
       line-told = field-told (given i) (tableIn i) f line-look
 
-      pub demand-3 : Kept (onIn i) (i .line) (listed (lexed i .faults)) f
+      pub demand-3 : Kept (onIn i) (i .line) (faultsIn (told (lexed i .faults))) f
       demand-3 = rw line-faults (field-kept (given i) (tableIn i) f line-look)
 
-      pub unfaulted-written : namedBy (f .columns) (listed (lexed i .faults)) ≡ 0 → Filled (onIn i) (i .line) f
+      pub unfaulted-written : namedBy (f .columns) (faultsIn (told (lexed i .faults))) ≡ 0 → Filled (onIn i) (i .line) f
       unfaulted-written free =
           ⊎-elim (λ w. w) (λ lacks. let one = demand-3 .otherwise lacks .0 in absurd (omega arith)) (written-or-not (onIn i) (i .line) f)
 

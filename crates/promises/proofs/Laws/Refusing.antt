@@ -27,6 +27,7 @@ use lib.Ieee.Bits.{is-true}
 use lib.Ieee.Fits.{and-l, and-r}
 use Rattle.number.proofs.Laws.Choice.{clash}
 use Rattle.line.specs.Faults.{noFaults, listed}
+use Rattle.lexitem.specs.Fault.{noLineFaults, stampedAs, told}
 use Rattle.lexitem.specs.declared.answer.Answer.{Answer}
 use Rattle.lexitem.specs.declared.answer.Outcome.{Outcome}
 use Rattle.lexitem.specs.declared.answer.Outcome.the-variants.{Accepted, Refused}
@@ -142,9 +143,9 @@ module _ (i : Input) where
   outcome-is a = first-part (λ (b : Answer). b .outcome) (refused i) (accepted i) (tests a i)
 
   nothing : (a : Asking) (r : Refusal) → firstOf (refused i) (tests a i) (accepted i) .outcome ≡ Refused r
-      → firstOf (refused i) (tests a i) (accepted i) .faults ≡ noFaults
+      → firstOf (refused i) (tests a i) (accepted i) .faults ≡ noLineFaults
   nothing a r =
-      first-any (λ (b : Answer). b .outcome ≡ Refused r → b .faults ≡ noFaults) (refused i) (accepted i) (λ s e. refl)
+      first-any (λ (b : Answer). b .outcome ≡ Refused r → b .faults ≡ noLineFaults) (refused i) (accepted i) (λ s e. refl)
       (λ e. absurd (not-both r (sym e)))
       (tests a i)
 
@@ -244,16 +245,16 @@ module _ (i : Input) where
           refused-when itsRecord (refusal n place length) .0
           (e ∙ ap (λ (t : ℕ × ℕ × ℕ). Refused (refusal (t .0) (t .1) (t .2))) z)
 
-  pub refusal-empty : (r : Refusal) → lexed i .outcome ≡ Refused r → lexed i .faults ≡ noFaults
+  pub refusal-empty : (r : Refusal) → lexed i .outcome ≡ Refused r → lexed i .faults ≡ noLineFaults
   unfolding lexed
   refusal-empty = nothing itsRecord
 
-  pub as-refusal-empty : (k : Kind) (r : Refusal) → lexedAs k i .outcome ≡ Refused r → lexedAs k i .faults ≡ noFaults
+  pub as-refusal-empty : (k : Kind) (r : Refusal) → lexedAs k i .outcome ≡ Refused r → lexedAs k i .faults ≡ noLineFaults
   unfolding lexedAs
   as-refusal-empty k = nothing (recordAs k)
 
-  pub refusal-unlisted : (r : Refusal) → lexed i .outcome ≡ Refused r → listed (lexed i .faults) ≡ []
-  unfolding listed noFaults
+  pub refusal-unlisted : (r : Refusal) → lexed i .outcome ≡ Refused r → told (lexed i .faults) ≡ []
+  unfolding told stampedAs listed noFaults
   refusal-unlisted r e = rw (refusal-empty r e) refl
 
   pub line-through : lexed i .line ≡ i .number

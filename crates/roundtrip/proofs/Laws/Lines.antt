@@ -15,6 +15,7 @@ use mathlib.Core.List.{List, [], _∷_}
 use lib.ListN.{length, take}
 use lib.Dec.{ltb}
 use Rattle.line.specs.Faults.{noFaults}
+use Rattle.lexitem.specs.Fault.{stampedAs}
 use Rattle.line.specs.declared.options.Mode.{Mode}
 use Rattle.number.proofs.Laws.Choice.{and-left}
 use Rattle.kind.specs.Kind.{kindOf, kindBy, namesBy, rowPlace}
@@ -151,7 +152,7 @@ written-asked end l n loose = record { header = refl; remark = refl; least = ref
 
 pub clear-accepted : (i : Input) (k : Kind) → kind i ≡ k → length (i .line) ≡ 80 → Low (i .line) → length (i .remarks) ≡ 1000
     → Asked k (i .line) (i .options .loose) → faultsOf k (given i) ≡ []
-    → lexed i ≡ record { line = i .number; outcome = Accepted (itemOf k (given i)); faults = noFaults }
+    → lexed i ≡ record { line = i .number; outcome = Accepted (itemOf k (given i)); faults = stampedAs (i .number) k noFaults }
 unfolding lexed
 clear-accepted i k is wide low remarks asked none =
     rw (

@@ -12,6 +12,7 @@ use lib.ListN.{length}
 use lib.Dec.{ltb}
 use lib.Ieee.{Float}
 use Rattle.line.specs.Faults.{noFaults}
+use Rattle.lexitem.specs.Fault.{stampedAs}
 use Rattle.line.specs.Given.{Given}
 use Rattle.field.specs.Number.{zeroReal, oneReal}
 use Rattle.field.specs.Table.{tableFaults}
@@ -175,7 +176,7 @@ comes end g h = (refl, refl)
 
 pub written-read : {k : Kind} {asked : List ℕ} {s : Sheet} → Writable k asked s → Fit (s .cells) → (i : Input) → i .line ≡ lineOf s
     → length (i .remarks) ≡ 1000 → (i .options .atoms ≡ false) ⊎ (keptByAtoms k ≡ true)
-    → (lexed i ≡ record { line = i .number; outcome = Accepted (itemOf k (given i)); faults = noFaults })
+    → (lexed i ≡ record { line = i .number; outcome = Accepted (itemOf k (given i)); faults = stampedAs (i .number) k noFaults })
     × (rowsShown (lineOf s) (fieldsOf (itemOf k (given i))) ≡ cellsShown (s .cells))
 written-read {k} {s = s} w fit i e remarks kept =
     let h : Lined (i .line) s = rw e (written-lined w fit) in

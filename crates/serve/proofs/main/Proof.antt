@@ -7,7 +7,7 @@ use Rattle.serve.proofs.main.Statement.{statement}
 use Rattle.serve.proofs.main.Tie as tie
 
 abbrev Inv-loop : tie.InvT-loop
-Inv-loop requests₀ replies₀ turns₀ requests replies turns = (61440 ≡ length requests) × (63000 ≡ length replies)
+Inv-loop requests₀ replies₀ turns₀ requests replies turns = (61440 ≡ length requests) × (63120 ≡ length replies)
 
 abbrev μ-loop : tie.MeasureT-loop
 μ-loop requests₀ replies₀ turns₀ requests replies turns = turns

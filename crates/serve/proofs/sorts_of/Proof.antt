@@ -1,9 +1,9 @@
--- `serve::word_of` is safe and ends.
+-- `serve::sorts_of` is safe and ends.
 -- Assumes nothing.
 use Prim.Native.Nat.{_≤_}
 use borrow.Author.Needs.{needs}
-use Rattle.serve.proofs.word_of.Statement.{statement}
-use Rattle.serve.proofs.word_of.Tie as tie
+use Rattle.serve.proofs.sorts_of.Statement.{statement}
+use Rattle.serve.proofs.sorts_of.Tie as tie
 
 abbrev Inv-loop : tie.InvT-loop
 Inv-loop faults n₀ i₀ n i = i ≤ 15
@@ -17,14 +17,17 @@ loop-holds c = search needs
 sub-i : tie.Need-sub-i Inv-loop μ-loop
 sub-i c = search needs
 
-mul-fault : tie.Need-mul-fault Inv-loop μ-loop
-mul-fault c = search needs
+mul-sort : tie.Need-mul-sort Inv-loop μ-loop
+mul-sort c = search needs
 
-array-copy-out-fault : tie.Need-array-copy-out-fault Inv-loop μ-loop
-array-copy-out-fault c = search needs
+add-sort : tie.Need-add-sort Inv-loop μ-loop
+add-sort c = search needs
 
-sort-of-requires : tie.Need-sort-of-requires Inv-loop μ-loop
-sort-of-requires c κs = search needs
+mul-sort-2 : tie.Need-mul-sort-2 Inv-loop μ-loop
+mul-sort-2 c = search needs
+
+array-read-sort : tie.Need-array-read-sort Inv-loop μ-loop
+array-read-sort c = search needs
 
 loop-less : tie.Need-loop-less Inv-loop μ-loop
 loop-less c = search needs
@@ -35,17 +38,18 @@ loop-again c = search needs
 returns : tie.Need-returns Inv-loop μ-loop
 returns c = search needs
 
-pub word-of-spec : {M : Type 1} → statement M
-word-of-spec =
+pub sorts-of-spec : {M : Type 1} → statement M
+sorts-of-spec =
     tie.close
     (tie.spec
     Inv-loop
     μ-loop
     loop-holds
     sub-i
-    mul-fault
-    array-copy-out-fault
-    sort-of-requires
+    mul-sort
+    add-sort
+    mul-sort-2
+    array-read-sort
     loop-less
     loop-again
     returns)
