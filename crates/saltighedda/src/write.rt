@@ -1,39 +1,12 @@
 // What C hosts call to write a line: numbers and byte slices alone, and one number for an answer.
 ghost use Rattle.printer.specs.Sheets as sheets;
-ghost use Rattle.saltighedda.specs.Write as specs;
-ghost use mathlib.Core.Path.{_≡_};
-use atom::record::Factors;
-use atom::record::Position;
-use crystal::record::Cell;
-use line::columns::Columns;
-use printer::atoms::write_anisou;
-use printer::atoms::write_atom;
-use printer::bare::Bare;
-use printer::bare::write_bare;
-use printer::bare::write_model;
-use printer::rows::write_mtrix;
-use printer::rows::write_origx;
-use printer::rows::write_scale;
-use printer::unit_cell::write_cell;
-use sheet::Written;
-use transformation::record::Transformation;
-
-// The name of a record, which of another kind doesn't fit.
-const NAME: Columns = Columns { start: 0, end: 6 };
-
-// An answer as one number: 0 for a line, or a refusal's number, place and length.
-fn packed(written: Written) -> u64
-    ensures { λ r. ⌜ r ≡ specs.packed written ⌝ }
-{
-    match written {
-        Written::Line => 0,
-        Written::NoFit(at) => {
-            let width = at.width() as u64;
-            9 * 281474976710656 + at.start as u64 * 4294967296 + width
-        }
-        Written::NoRoom => 8 * 281474976710656 + 80,
-    }
-}
+ghost use Rattle.writing.specs.Write as specs;
+use writing::pack_anisou;
+use writing::pack_atom;
+use writing::pack_bare;
+use writing::pack_cell;
+use writing::pack_model;
+use writing::pack_row;
 
 #[no_mangle]
 pub extern "C" fn saltighedda_write_atom(
@@ -58,8 +31,8 @@ pub extern "C" fn saltighedda_write_atom(
 ) -> u64
     ensures { λ r. ⌜ specs.Packs (now (out .entry)) (specs.atomBy hetero (sheets.label serial (now (name .entry)) (now (alternate .entry)) (now (residue .entry)) (now (chain .entry)) number (now (insertion .entry)) (now (segment .entry)) (now (element .entry)) charge) x y z occupancy bfactor (now (places .entry))) r (now (out .exit)) ⌝ }
 {
-    packed(write_atom(
-        hetero != 0,
+    pack_atom(
+        hetero,
         serial,
         name,
         alternate,
@@ -67,7 +40,9 @@ pub extern "C" fn saltighedda_write_atom(
         chain,
         number,
         insertion,
-        Position { x, y, z },
+        x,
+        y,
+        z,
         occupancy,
         bfactor,
         segment,
@@ -75,7 +50,7 @@ pub extern "C" fn saltighedda_write_atom(
         charge,
         places,
         out,
-    ))
+    )
 }
 
 #[no_mangle]
@@ -100,7 +75,7 @@ pub extern "C" fn saltighedda_write_anisou(
 ) -> u64
     ensures { λ r. ⌜ specs.Packs (now (out .entry)) (specs.anisouBy (sheets.label serial (now (name .entry)) (now (alternate .entry)) (now (residue .entry)) (now (chain .entry)) number (now (insertion .entry)) (now (segment .entry)) (now (element .entry)) charge) u11 u22 u33 u12 u13 u23) r (now (out .exit)) ⌝ }
 {
-    packed(write_anisou(
+    pack_anisou(
         serial,
         name,
         alternate,
@@ -108,19 +83,17 @@ pub extern "C" fn saltighedda_write_anisou(
         chain,
         number,
         insertion,
-        Factors {
-            u11,
-            u22,
-            u33,
-            u12,
-            u13,
-            u23,
-        },
+        u11,
+        u22,
+        u33,
+        u12,
+        u13,
+        u23,
         segment,
         element,
         charge,
         out,
-    ))
+    )
 }
 
 #[no_mangle]
@@ -138,20 +111,7 @@ pub extern "C" fn saltighedda_write_cell(
 ) -> u64
     ensures { λ r. ⌜ specs.Packs (now (out .entry)) (specs.cellBy a b c alpha beta gamma (now (group .entry)) z (now (places .entry))) r (now (out .exit)) ⌝ }
 {
-    packed(write_cell(
-        Cell {
-            a,
-            b,
-            c,
-            alpha,
-            beta,
-            gamma,
-        },
-        group,
-        z,
-        places,
-        out,
-    ))
+    pack_cell(a, b, c, alpha, beta, gamma, group, z, places, out)
 }
 
 // Serial and given count for MTRIX alone.
@@ -170,38 +130,19 @@ pub extern "C" fn saltighedda_write_row(
 ) -> u64
     ensures { λ r. ⌜ specs.Packs (now (out .entry)) (specs.rowBy family row serial a b c d given (now (places .entry))) r (now (out .exit)) ⌝ }
 {
-    let values = Transformation { a, b, c, d };
-    if family == 0 {
-        return packed(write_scale(row as usize, values, places, out));
-    }
-    if family == 1 {
-        return packed(write_origx(row as usize, values, places, out));
-    }
-    if family == 2 {
-        return packed(write_mtrix(row as usize, serial, values, given != 0, places, out));
-    }
-    packed(Written::NoFit(NAME))
+    pack_row(family, row, serial, a, b, c, d, given, places, out)
 }
 
 #[no_mangle]
 pub extern "C" fn saltighedda_write_model(number: u64, out: &mut [u8]) -> u64
     ensures { λ r. ⌜ specs.Packs (now (out .entry)) (sheets.modelSheet number) r (now (out .exit)) ⌝ }
 {
-    packed(write_model(number, out))
+    pack_model(number, out)
 }
 
 #[no_mangle]
 pub extern "C" fn saltighedda_write_bare(which: u32, out: &mut [u8]) -> u64
     ensures { λ r. ⌜ specs.Packs (now (out .entry)) (specs.bareBy which) r (now (out .exit)) ⌝ }
 {
-    if which == 0 {
-        return packed(write_bare(Bare::Ter, out));
-    }
-    if which == 1 {
-        return packed(write_bare(Bare::Endmdl, out));
-    }
-    if which == 2 {
-        return packed(write_bare(Bare::End, out));
-    }
-    packed(Written::NoFit(NAME))
+    pack_bare(which, out)
 }

@@ -37,7 +37,7 @@ use lexitem::item::LexItem;
 use libc::STDIN_FILENO;
 use libc::STDOUT_FILENO;
 use line::fault::Faults;
-use saltighedda::options_of;
+use packing::options_of;
 use saltighedda::read::saltighedda_read;
 use saltighedda::saltighedda_list;
 use saltighedda::saltighedda_list_length;

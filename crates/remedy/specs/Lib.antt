@@ -1,0 +1,2 @@
+-- The words that the contracts of this crate cite.
+pub mod Mend

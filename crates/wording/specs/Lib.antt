@@ -1,0 +1,5 @@
+-- The words that the contracts of this crate cite.
+pub mod Put
+pub mod Fields
+pub mod Faults
+pub mod Read
