@@ -1,7 +1,7 @@
 // What C hosts call to read a line: its fields and its faults, as words.
 ghost use Rattle.packing.specs.Options.{inputOf};
-ghost use Rattle.wording.specs.Read as specs;
-use wording::read_words;
+ghost use Rattle.reading.specs.Read as specs;
+use reading::read_words;
 
 #[no_mangle]
 pub extern "C" fn saltighedda_read(

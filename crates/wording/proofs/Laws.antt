@@ -1,3 +1,2 @@
 -- The laws of the words in specs/.
 pub mod Words
-pub mod Read

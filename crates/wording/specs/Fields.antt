@@ -2,11 +2,13 @@
 -- Sorts: 0 unsigned; 1 signed, two's complement; 2 real, the double's bits; 3 text, place * 2^32 + length; 4 character, the byte, or 256 where the
 -- line doesn't reach it; 5 flag. places is 0 but for R fields."
 use Prim.Native.Nat.{ℕ, suc, _+_, _-_, _*_, _/_, _%_, _^_}
+use mathlib.Core.Path.{_≡_}
 use mathlib.Core.Bool.{Bool, cond}
-use mathlib.Core.List.{List, [], _∷_}
+use mathlib.Core.List.{List, [], _∷_, _++_}
 use lib.IntN.{ℤ, pos, negsuc}
 use lib.Ieee.{binary64, toBits}
-use lib.ListN.{length, getD}
+use lib.ListN.{length, getD, drop}
+use lib.Dec.{ltb}
 use Rattle.line.specs.declared.text.Character.{Character}
 use Rattle.line.specs.declared.text.Character.the-variants.{At, Unreached, Absent}
 use Rattle.line.specs.declared.text.Text.{Text}
@@ -56,3 +58,11 @@ rowsWords l rows = each (rowWords l) rows
 -- "fields[0] is the kind number, fields[1] the number n of fields", which is half of the words that follow
 unfoldable pub fieldWords : List ℕ → LexItem → List ℕ
 fieldWords l item = numberOf (kindOfItem item) ∷ length (rowsWords l (fieldsOf item)) / 2 ∷ rowsWords l (fieldsOf item)
+
+-- words at the front of lent ones
+abbrev pub over : List ℕ → List ℕ → List ℕ
+over words old = words ++ drop (length words) old
+
+-- what is left of lent words by those that are to go to their front: there have to be 34
+pub record Fills (before words after : List ℕ) : Type 0 where
+  pub leaves : after ≡ cond (ltb (length before) 34) before (over words before)

@@ -1,5 +1,3 @@
 -- The words that the contracts of this crate cite.
 pub mod Put
 pub mod Fields
-pub mod Faults
-pub mod Read

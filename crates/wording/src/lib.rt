@@ -1,114 +1,51 @@
-// A line read for C hosts: its fields and its faults, as words.
-ghost use mathlib.Core.Path.{_≡_};
-ghost use Rattle.packing.specs.Options.{inputOf};
-ghost use Rattle.wording.specs.Read as specs;
+// A record's fields as numbers of 64 bits in lent words: two for each field that is present. One number in front of them says how many there are,
+// and one in front of that which kind it is.
+ghost use Prim.Native.Nat.{_≤_};
+ghost use lib.ListN.{length};
+ghost use Rattle.lexitem.specs.Describe.{fieldsOf};
+ghost use Rattle.wording.specs.Fields as specs;
+ghost use Rattle.wording.specs.Put.{Puts};
 
+mod atom_fields;
 mod put;
 mod word;
 
-use crate::put::put_faults;
-use crate::put::put_fields;
-use kind::Kind;
-use lexer::lex_line;
-use lexer::read_line_as;
-use lexitem::answer::Answer;
-use lexitem::answer::Outcome;
-use packing::options_of;
-use packing::packed;
+use crate::atom_fields::put_atom;
+use crate::put::put_rows;
+use kind::numbered::number_of;
+use lexitem::item::LexItem;
+use lexitem::item::rows_of;
 
-// A kind by its number. The row that stands for any other number is no kind of a line.
-fn kind_numbered(number: u32) -> Kind
-    ensures { λ r. ⌜ r ≡ specs.kindNumbered number ⌝ }
+// The words of a record's rows, behind the first two.
+fn put_by_rows(out: &mut [u64], line: &[u8], item: LexItem) -> usize
+    requires { ⌜ 34 ≤ length (now out) ⌝ }
+    ensures { λ r. ⌜ Puts (now (out .entry)) 2 (specs.rowsWords (now (line .entry)) (fieldsOf item)) r (now (out .exit)) ⌝ }
 {
-    let kinds = [
-        Kind::Empty,
-        Kind::Header,
-        Kind::Remark,
-        Kind::Atom,
-        Kind::Hetatm,
-        Kind::Anisou,
-        Kind::Cryst1,
-        Kind::Scale(0),
-        Kind::Scale(1),
-        Kind::Scale(2),
-        Kind::Origx(0),
-        Kind::Origx(1),
-        Kind::Origx(2),
-        Kind::Mtrix(0),
-        Kind::Mtrix(1),
-        Kind::Mtrix(2),
-        Kind::Model,
-        Kind::Master,
-        Kind::Dbref,
-        Kind::Dbref1,
-        Kind::Dbref2,
-        Kind::Seqres,
-        Kind::Seqadv,
-        Kind::Modres,
-        Kind::Ssbond,
-        Kind::Endmdl,
-        Kind::Ter,
-        Kind::End,
-    ];
-    if number < 28 {
-        return kinds[number as usize];
-    }
-    Kind::Scale(3)
+    let rows = rows_of(item);
+    let list = rows.list;
+    put_rows(out, 2, line, list)
 }
 
-fn answer_of(line: &[u8], number: usize, options: u32, remarks: &[u8], kind: u32) -> Answer
-    ensures { λ r. ⌜ r ≡ specs.answered kind (inputOf (now (line .entry)) number options (now (remarks .entry))) ⌝ }
+// The same, without rows for an atom: nearly every line of a file is one.
+fn put_present(out: &mut [u64], line: &[u8], item: LexItem) -> usize
+    requires { ⌜ 34 ≤ length (now out) ⌝ }
+    ensures { λ r. ⌜ Puts (now (out .entry)) 2 (specs.rowsWords (now (line .entry)) (fieldsOf item)) r (now (out .exit)) ⌝ }
 {
-    if kind == 4294967295 {
-        return lex_line(line, number, options_of(options), remarks);
+    match item {
+        LexItem::Atom(atom) => put_atom(out, 2, line, atom),
+        _ => put_by_rows(out, line, item),
     }
-    read_line_as(
-        line,
-        number,
-        options_of(options),
-        remarks,
-        kind_numbered(kind),
-    )
 }
 
-// 8 with the words needed, where one of the lent arrays has too few; else 0.
-fn room_refusal(room: usize, other: usize) -> u64
-    ensures { λ r. ⌜ r ≡ specs.roomWord room other ⌝ }
+// A record's fields at the front of lent words, which stay as they are where there are fewer than 34. They are counted by the place behind them.
+pub fn put_fields(out: &mut [u64], line: &[u8], item: LexItem)
+    ensures { λ r. ⌜ specs.Fills (now (out .entry)) (specs.fieldWords (now (line .entry)) item) (now (out .exit)) ⌝ }
 {
-    if room < 34 {
-        return 2251799813685282;
+    if out.len() < 34 {
+        return;
     }
-    if other < 31 {
-        return 2251799813685279;
-    }
-    0
-}
-
-// Answers 0, or the refusal as one number.
-pub fn read_words(
-    line: &[u8],
-    number: usize,
-    options: u32,
-    remarks: &[u8],
-    kind: u32,
-    fields: &mut [u64],
-    faults: &mut [u64],
-) -> u64
-    ensures { λ r. ⌜ specs.Reads (now (line .entry)) (specs.answered kind (inputOf (now (line .entry)) number options (now (remarks .entry)))) (now (fields .entry)) (now (faults .entry)) r (now (fields .exit)) (now (faults .exit)) ⌝ }
-{
-    let answer = answer_of(line, number, options, remarks, kind);
-    let list = answer.faults;
-    let outcome = answer.outcome;
-    match outcome {
-        Outcome::Refused(refusal) => packed(refusal),
-        Outcome::Accepted(item) => {
-            let few = room_refusal(fields.len(), faults.len());
-            if few != 0 {
-                return few;
-            }
-            put_fields(fields, line, item);
-            put_faults(faults, list);
-            0
-        }
-    }
+    let number = number_of(item.kind());
+    let end = put_present(out, line, item);
+    out[0] = number as u64;
+    out[1] = ((end - 2) / 2) as u64;
 }

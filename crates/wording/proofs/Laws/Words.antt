@@ -5,9 +5,12 @@
 --     puts-next, puts-all    the words of one element more of a list, and of the last
 --     row-two         a row has two words at most
 --     two-more        how far the place is behind so many rows
+--     puts-most       so many rows have twice as many words at most
 --     fields-padded, rows-most    sixteen rows have the words of a record's fields, and no more than 32
---     front-two, front-one        words behind two others, or one, at the front
---     number-of, few-of, sort-of  the parts of a fault's word are small
+--     puts-row, puts-last, puts-both  the words of one row more, of one row alone, and of two lists of rows
+--     front-two       words behind two others, at the front
+--     fills, fills-few, fills-one what is left of lent words, by whether there are enough of them; it is one content
+--     words-listed    a row has two words where the listing shows it, and none elsewhere
 --     below-some, twos-below, twos-up    a signed number's word, by whether it is below zero
 -- Assumes nothing.
 use Prim.Native.Nat.{ℕ, suc, _+_, _-_, _*_, _/_, _≤_, _<_}
@@ -16,11 +19,10 @@ use mathlib.Core.Bool.{Bool, true, false, cond}
 use mathlib.Core.List.{List, [], _∷_, _++_, append-nil, append-assoc}
 use native.Mathlib.Omega.{arith}
 use native.Mathlib.Numerals.{add-one}
-use borrow.Author.Tests.{ltb-true}
+use borrow.Author.Tests.{ltb-true, lt-ltb, le-ltb}
 use lib.IntN.{ℤ, pos, negsuc, natAbs}
 use lib.Signed.{ltZ}
 use lib.ListN.{length, getD, set, take, drop, length-append}
-use lib.Dec.{eqb}
 use lib.Seq.{sets, sets-eq, take-all}
 use Rattle.layout.specs.Each.{each}
 use Rattle.layout.proofs.Laws.Each.{each-padded}
@@ -28,22 +30,13 @@ use Rattle.row.specs.Rows.{padded}
 use Rattle.lexitem.specs.Describe.{fieldsOf}
 use Rattle.lexitem.specs.declared.item.LexItem.{LexItem}
 use Rattle.lexitem.proofs.Laws.Kinds.{rows-sixteen}
-use Rattle.kind.specs.Kind.{rowPlace}
-use Rattle.kind.specs.Kind as kinds
-use Rattle.kind.specs.declared.Kind.{Kind}
-use Rattle.kind.specs.declared.Kind.the-variants.{Empty, Header, Remark, Atom, Hetatm, Anisou, Cryst1, Scale, Origx, Mtrix, Model, Master, Dbref, Dbref1, Dbref2, Seqres, Seqadv, Modres, Ssbond, Endmdl, Ter, End}
-use Rattle.line.specs.Faults as faults
-use Rattle.line.specs.declared.fault.FaultKind.{FaultKind}
-use Rattle.line.specs.declared.fault.FaultKind.the-variants.{Short, Wrong, NoDigit, NoSign, Unknown}
-use Rattle.line.specs.declared.fault.Sort.{Sort}
-use Rattle.line.specs.declared.fault.Sort.the-variants as sort
 use Rattle.line.specs.declared.text.Character.{Character}
 use Rattle.line.specs.declared.text.Character.the-variants.{At, Unreached, Absent}
 use Rattle.row.specs.declared.Row.{Row}
 use Rattle.row.specs.declared.Value.{Value}
 use Rattle.row.specs.declared.Value.the-variants.{Unsigned, Signed, Real, Factor, Words, One, Flag, Nothing}
-use Rattle.wording.specs.Fields.{twos, characterWords, valueWords, rowWords, rowsWords}
-use Rattle.wording.specs.Faults.{sortNumber, sortOf}
+use Rattle.layout.specs.Row.{present}
+use Rattle.wording.specs.Fields.{twos, characterWords, valueWords, rowWords, rowsWords, over, Fills}
 use Rattle.wording.specs.Put.{Puts}
 
 pub read-any : (l : List ℕ) (n d e : ℕ) → n < length l → getD l n d ≡ getD l n e
@@ -84,7 +77,26 @@ module _ {A : Type 0} (f : A → List ℕ) where
     pub puts-all : (i : ℕ) (m : List ℕ) (r : ℕ) → length xs ≤ i → Puts l at (each f (take i xs)) r m → Puts l at (each f xs) r m
     puts-all i m r h p = rw (take-all i xs h) at p
 
-character-two : (l : List ℕ) (column : ℕ) (c : Character) → length (characterWords l column c) ≤ 2
+-- ---- rows
+each-append : {A : Type 0} (f : A → List ℕ) (xs ys : List A) → each f (xs ++ ys) ≡ each f xs ++ each f ys
+unfolding each
+each-append f [] ys = refl
+each-append f (x ∷ t) ys = rw (each-append f t ys) (sym (append-assoc (f x) (each f t) (each f ys)))
+
+pub puts-last : {a b : List ℕ} {at r : ℕ} (l : List ℕ) (row : Row) → Puts a at (rowWords l row) r b → Puts a at (rowsWords l (row ∷ [])) r b
+unfolding each
+puts-last l row p = rw (append-nil (rowWords l row)) p
+
+module _ (l : List ℕ) {a b c : List ℕ} {at r s : ℕ} where
+  pub puts-row : (row : Row) (rows : List Row) → Puts a at (rowWords l row) r b → Puts b r (rowsWords l rows) s c
+      → Puts a at (rowsWords l (row ∷ rows)) s c
+  unfolding each
+  puts-row row rows p q = puts-then a b c at r s (rowWords l row) (rowsWords l rows) p q
+
+  pub puts-both : (xs ys : List Row) → Puts a at (rowsWords l xs) r b → Puts b r (rowsWords l ys) s c → Puts a at (rowsWords l (xs ++ ys)) s c
+  puts-both xs ys p q = rw (each-append (rowWords l) xs ys) (puts-then a b c at r s (rowsWords l xs) (rowsWords l ys) p q)
+
+pub character-two : (l : List ℕ) (column : ℕ) (c : Character) → length (characterWords l column c) ≤ 2
 character-two l column (At place) = omega arith
 character-two l column Unreached = omega arith
 character-two l column Absent = omega arith
@@ -135,6 +147,9 @@ unfolding each
 most l [] = omega arith
 most l (r ∷ t) = let two = row-two l r in let ih = most l t in simp length-append (omega arith)
 
+pub puts-most : {a b : List ℕ} {at r : ℕ} (l : List ℕ) (rows : List Row) (n : ℕ) → length rows ≡ n → Puts a at (rowsWords l rows) r b → r ≤ at + 2 * n
+puts-most l rows n e p = let far = p .behind in let few = most l rows in omega arith
+
 pub rows-most : (l : List ℕ) (item : LexItem) → length (rowsWords l (fieldsOf item)) ≤ 32
 rows-most l item = let n = most l (fieldsOf item) in let k = rows-sixteen item in omega arith
 
@@ -148,69 +163,29 @@ front-two (a ∷ b ∷ t) m ws r k h p =
     let e : 2 + length ws ≡ suc (suc (length ws)) = omega arith in
     rw (p .stands, sets-eq ws (a ∷ b ∷ t) 2 h, n, e) refl
 
-pub front-one : (l m ws : List ℕ) (r k : ℕ) → 1 + length ws ≤ length l → Puts l 1 ws r m → set m 0 k ≡ (k ∷ ws) ++ drop (suc (length ws)) l
-front-one [] m ws r k h p = absurd (omega arith)
-front-one (a ∷ t) m ws r k h p = let e : 1 + length ws ≡ suc (length ws) = omega arith in rw (p .stands, sets-eq ws (a ∷ t) 1 h, e) refl
+-- ---- what is left
+pub fills-few : (before words : List ℕ) → length before < 34 → Fills before words before
+fills-few before words h = record { leaves = rw (lt-ltb (length before) 34 h) refl }
 
--- ---- the parts of a fault's word
-row-below : (first row : ℕ) → first ≤ 13 → rowPlace first row < 256
-unfolding rowPlace
-row-below first row h = go (eqb row 0) (eqb row 1) (eqb row 2)
-  where
-    go : (a b c : Bool) → cond a first (cond b (first + 1) (cond c (first + 2) 255)) < 256
-    go true b c = omega arith
-    go false true c = omega arith
-    go false false true = omega arith
-    go false false false = omega arith
+pub fills : (before words after : List ℕ) → 34 ≤ length before → after ≡ over words before → Fills before words after
+fills before words after h e = record { leaves = rw (le-ltb (length before) 34 h) e }
 
-number-below : (k : Kind) → kinds.numberOf k < 256
-number-below (Scale row) = row-below 7 row (omega arith)
-number-below (Origx row) = row-below 10 row (omega arith)
-number-below (Mtrix row) = row-below 13 row (omega arith)
-number-below Empty = omega arith
-number-below Header = omega arith
-number-below Remark = omega arith
-number-below Atom = omega arith
-number-below Hetatm = omega arith
-number-below Anisou = omega arith
-number-below Cryst1 = omega arith
-number-below Model = omega arith
-number-below Master = omega arith
-number-below Dbref = omega arith
-number-below Dbref1 = omega arith
-number-below Dbref2 = omega arith
-number-below Seqres = omega arith
-number-below Seqadv = omega arith
-number-below Modres = omega arith
-number-below Ssbond = omega arith
-number-below Endmdl = omega arith
-number-below Ter = omega arith
-number-below End = omega arith
+pub fills-one : {before words after other : List ℕ} → Fills before words after → Fills before words other → after ≡ other
+fills-one a b = a .leaves ∙ sym (b .leaves)
 
-pub number-of : (n : ℕ) (k : Kind) → n ≡ kinds.numberOf k → n < 256
-number-of n k e = rw e (number-below k)
+-- ---- beside the listing
+two-words : (l : List ℕ) (column : ℕ) (v : Value) → length (valueWords l column v) ≡ cond (present v) 2 0
+two-words l column (Unsigned n) = refl
+two-words l column (Signed n) = refl
+two-words l column (Real x places) = refl
+two-words l column (Factor x) = refl
+two-words l column (Words t) = refl
+two-words l column (One (At place)) = refl
+two-words l column (One Unreached) = refl
+two-words l column (One Absent) = refl
+two-words l column (Flag b) = refl
+two-words l column Nothing = refl
 
-pub few-of : (n : ℕ) (k : FaultKind) → n ≡ faults.numberOf k → n ≤ 5
-few-of n k e = rw e (go k)
-  where
-    go : (k : FaultKind) → faults.numberOf k ≤ 5
-    go Short = omega arith
-    go (Wrong sort) = omega arith
-    go NoDigit = omega arith
-    go NoSign = omega arith
-    go Unknown = omega arith
-
-pub sort-of : (n : ℕ) (k : FaultKind) → n ≡ sortOf k → n ≤ 3
-sort-of n k e = rw e (go k)
-  where
-    number : (s : Sort) → sortNumber s ≤ 3
-    number sort.Unsigned = omega arith
-    number sort.Signed = omega arith
-    number sort.Real = omega arith
-
-    go : (k : FaultKind) → sortOf k ≤ 3
-    go Short = omega arith
-    go (Wrong s) = number s
-    go NoDigit = omega arith
-    go NoSign = omega arith
-    go Unknown = omega arith
+pub words-listed : (l : List ℕ) (row : Row) → length (rowWords l row) ≡ cond (present (row .1)) 2 0
+unfolding rowWords
+words-listed l row = two-words l (row .0) (row .1)

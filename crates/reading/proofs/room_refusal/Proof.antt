@@ -1,10 +1,10 @@
--- `wording::room_refusal` meets its contract.
+-- `reading::room_refusal` meets its contract.
 -- Assumes nothing.
 use mathlib.Core.Path.{refl}
 use native.Mathlib.Omega.{arith}
 use borrow.Author.Tests.{lt-ltb, le-ltb}
-use Rattle.wording.proofs.room_refusal.Statement.{statement}
-use Rattle.wording.proofs.room_refusal.Tie as tie
+use Rattle.reading.proofs.room_refusal.Statement.{statement}
+use Rattle.reading.proofs.room_refusal.Tie as tie
 
 returns : tie.Need-returns
 returns c = let a = c .before .args in rw (lt-ltb (a .room) 34 (omega arith)) refl

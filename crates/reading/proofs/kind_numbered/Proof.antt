@@ -1,10 +1,10 @@
--- `wording::kind_numbered` meets its contract: the list is that of the names' kinds.
+-- `reading::kind_numbered` meets its contract: the list is that of the names' kinds.
 -- Assumes nothing.
 use native.Mathlib.Omega.{arith}
-use Rattle.wording.proofs.Laws.Read.{kind-within, kind-beyond}
+use Rattle.reading.proofs.Laws.Read.{kind-within, kind-beyond}
 use borrow.Author.Needs.{needs}
-use Rattle.wording.proofs.kind_numbered.Statement.{statement}
-use Rattle.wording.proofs.kind_numbered.Tie as tie
+use Rattle.reading.proofs.kind_numbered.Statement.{statement}
+use Rattle.reading.proofs.kind_numbered.Tie as tie
 
 mul-result : tie.Need-mul-result
 mul-result c = search needs

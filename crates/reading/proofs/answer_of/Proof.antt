@@ -1,10 +1,10 @@
--- `wording::answer_of` meets its contract: the test is that of `answered`.
+-- `reading::answer_of` meets its contract: the test is that of `answered`.
 -- Assumes nothing.
 use borrow.Author.Tests.{eq-eqb, ne-eqb}
-use Rattle.wording.specs.Read.{answered}
+use Rattle.reading.specs.Read.{answered}
 use borrow.Author.Needs.{needs}
-use Rattle.wording.proofs.answer_of.Statement.{statement}
-use Rattle.wording.proofs.answer_of.Tie as tie
+use Rattle.reading.proofs.answer_of.Statement.{statement}
+use Rattle.reading.proofs.answer_of.Tie as tie
 
 options-of-requires : tie.Need-options-of-requires
 options-of-requires c κs = search needs

@@ -3,8 +3,8 @@
 use Prim.Native.Nat.{ℕ, suc, zero, _-_, _^_}
 use mathlib.Core.Path.{_≡_}
 use mathlib.Core.Bool.{Bool, cond, _||_}
-use mathlib.Core.List.{List, [], _∷_, _++_}
-use lib.ListN.{length, drop}
+use mathlib.Core.List.{List, [], _∷_}
+use lib.ListN.{length}
 use lib.Dec.{ltb, eqb}
 use Rattle.kind.specs.Kind.{Named, names}
 use Rattle.kind.specs.declared.Kind.{Kind}
@@ -15,8 +15,8 @@ use Rattle.lexitem.specs.Fault.{told}
 use Rattle.lexitem.specs.declared.answer.Answer.{Answer}
 use Rattle.lexitem.specs.declared.answer.Outcome.{Outcome}
 use Rattle.lexitem.specs.declared.answer.Outcome.the-variants.{Accepted, Refused}
-use Rattle.wording.specs.Fields.{fieldWords}
-use Rattle.wording.specs.Faults.{faultsWords}
+use Rattle.wording.specs.Fields.{fieldWords, over}
+use Rattle.reading.specs.Faults.{faultsWords}
 use Rattle.packing.specs.Packed.{packedAs}
 
 -- the kind of a number; any other number is that of a row which no line has
@@ -42,10 +42,6 @@ roomWord room other = cond (ltb room 34) (packedAs (8, 0, 34)) (cond (ltb other 
 abbrev pub readWord : Outcome → ℕ → ℕ → ℕ
 readWord (Refused r) room other = packedAs (r .number, r .place, r .length)
 readWord (Accepted x) room other = roomWord room other
-
--- words at the front of lent ones
-abbrev pub over : List ℕ → List ℕ → List ℕ
-over words old = words ++ drop (length words) old
 
 abbrev pub fieldsLeft : Outcome → List ℕ → List ℕ → List ℕ → List ℕ
 fieldsLeft (Refused r) l old other = old

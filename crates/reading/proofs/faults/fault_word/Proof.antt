@@ -1,10 +1,10 @@
--- `wording::putfault_word` meets its contract: each part has its own bits.
+-- `reading::putfault_word` meets its contract: each part has its own bits.
 -- Assumes nothing.
 use native.Mathlib.Omega.{arith}
-use Rattle.wording.proofs.Laws.Words.{number-of, few-of, sort-of}
+use Rattle.reading.proofs.Laws.Faults.{number-of, few-of, sort-of}
 use borrow.Author.Needs.{needs}
-use Rattle.wording.proofs.put.fault_word.Statement.{statement}
-use Rattle.wording.proofs.put.fault_word.Tie as tie
+use Rattle.reading.proofs.faults.fault_word.Statement.{statement}
+use Rattle.reading.proofs.faults.fault_word.Tie as tie
 
 number-of-requires : tie.Need-number-of-requires
 number-of-requires c κs = search needs

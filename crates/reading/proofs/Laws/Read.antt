@@ -4,9 +4,8 @@
 --     answered-lexed   so is a line that is accepted at all
 --     few-faults       its faults are told as they are counted, and are at most fifteen
 --     small            a refusal's number and place have sixteen bits, and its length has thirty-two
---     reads-refused, reads-few, reads-all     what is left by what is answered
+--     reads-refused, reads-few, reads-none, reads-all     what is left by what is answered
 --     reads-one        two answers that the contract allows coincide, with every lent word
---     words-listed     a row has two words where the listing shows it, and none elsewhere
 -- Assumes nothing.
 use Prim.Native.Nat.{ℕ, suc, _-_, _^_, _≤_, _<_}
 use mathlib.Core.Path.{_≡_, refl, sym, ap, _∙_}
@@ -14,7 +13,7 @@ use mathlib.Core.Bool.{Bool, true, false, cond, not, _&&_, _||_}
 use mathlib.Core.List.{List, [], _∷_, map}
 use native.Mathlib.Omega.{arith}
 use borrow.Author.Tests.{ltb-false, le-ltb}
-use lib.ListN.{length, getD}
+use lib.ListN.{length, getD, set, drop}
 use lib.Dec.{ltb, eqb}
 use Rattle.kind.specs.Kind.{Named, names, numberOf}
 use Rattle.kind.specs.declared.Kind.{Kind}
@@ -22,6 +21,8 @@ use Rattle.kind.specs.declared.Kind.the-variants.{Empty, Header, Remark, Atom, 
 use Rattle.lexitem.specs.Answer.{refusal}
 use Rattle.lexitem.specs.Describe.{boundOf}
 use Rattle.lexitem.specs.Fault.{told}
+use Rattle.layout.specs.Each.{each}
+use Rattle.lexitem.specs.declared.fault.LineFault.{LineFault}
 use Rattle.lexitem.specs.declared.answer.Answer.{Answer}
 use Rattle.lexitem.specs.declared.answer.Outcome.{Outcome}
 use Rattle.lexitem.specs.declared.answer.Outcome.the-variants.{Accepted, Refused}
@@ -36,15 +37,10 @@ use Rattle.lexer.specs.Steps.{firstRefusal, entryTests, readAs}
 use Rattle.lexer.proofs.Laws.Accepted.{accepted-told, accepted-count}
 use Rattle.lexer.proofs.Laws.Plain.{plain-le}
 use Rattle.lexer.proofs.Laws.Tests.{lexed-split, as-split}
-use Rattle.line.specs.declared.text.Character.the-variants.{At, Unreached, Absent}
-use Rattle.row.specs.declared.Row.{Row}
-use Rattle.row.specs.declared.Value.{Value}
-use Rattle.row.specs.declared.Value.the-variants.{Unsigned, Signed, Real, Factor, Words, One, Flag, Nothing}
-use Rattle.layout.specs.Row.{present}
 use Rattle.packing.proofs.Laws.Packed as packing
-use Rattle.wording.specs.Fields.{valueWords, rowWords, fieldWords}
-use Rattle.wording.specs.Faults.{faultsWords}
-use Rattle.wording.specs.Read.{kindAt, kindNumbered, answered, tooFew, roomWord, readWord, over, fieldsLeft, faultsLeft, Reads}
+use Rattle.wording.specs.Fields.{fieldWords, over, Fills}
+use Rattle.reading.specs.Faults.{faultsWords}
+use Rattle.reading.specs.Read.{kindAt, kindNumbered, answered, tooFew, roomWord, readWord, fieldsLeft, faultsLeft, Reads}
 
 -- ---- the kind that is handed in
 within : (ns : List Named) (n : ℕ) (d : Kind) → n < length ns → getD (map (λ (m : Named). m .kind) ns) n d ≡ kindAt n ns
@@ -180,6 +176,13 @@ room-enough room other w p none = go (ltb room 34) (ltb other 31) refl refl p
     go false true e f p = absurd (omega arith)
     go false false e f p = (ltb-false room 34 e, ltb-false other 31 f)
 
+-- no fault is one word
+none-put : (fs : List LineFault) (other : List ℕ) → length fs ≡ 0 → 1 ≤ length other → set other 0 0 ≡ over (faultsWords fs) other
+unfolding faultsWords each drop
+none-put [] [] e h = absurd (omega arith)
+none-put [] (b ∷ t) e h = refl
+none-put (f ∷ fs) other e h = absurd (omega arith)
+
 -- ---- by what is answered
 module _ (n : ℕ) (i : Input) (a : Answer) (l old other : List ℕ) (e : a ≡ answered n i) where
   -- what is left where the outcome is known
@@ -201,30 +204,16 @@ module _ (n : ℕ) (i : Input) (a : Answer) (l old other : List ℕ) (e : a ≡ 
     pub reads-few : (w : ℕ) → w ≡ roomWord (length old) (length other) → (w ≡ 0 → ⊥) → Reads l (answered n i) old other w old other
     reads-few w p some = let few = too-few (length old) (length other) w p some in left (Accepted x) w old other o p (rw few refl) (rw few refl)
 
-    pub reads-all : (new others : List ℕ) → 34 ≤ length old → 31 ≤ length other → new ≡ over (fieldWords l x) old
-        → others ≡ over (faultsWords (told (a .faults))) other → Reads l (answered n i) old other 0 new others
-    reads-all new others h k p q =
-        let b = le-ltb (length old) 34 h in
-        let c = le-ltb (length other) 31 k in
-        left (Accepted x) 0 new others o (rw (b, c) refl) (rw (b, c) p) (rw (b, c) q)
+    module _ (new : List ℕ) (h : 34 ≤ length old) (k : 31 ≤ length other) (put : Fills old (fieldWords l x) new) where
+      pub reads-all : (others : List ℕ) → others ≡ over (faultsWords (told (a .faults))) other → Reads l (answered n i) old other 0 new others
+      reads-all others q =
+          let b = le-ltb (length old) 34 h in
+          let c = le-ltb (length other) 31 k in
+          left (Accepted x) 0 new others o (rw (b, c) refl) (rw (b, c) (put .leaves ∙ rw b refl)) (rw (b, c) q)
+
+      pub reads-none : a .faults .count ≡ 0 → length (told (a .faults)) ≡ a .faults .count → Reads l (answered n i) old other 0 new (set other 0 0)
+      reads-none none many = reads-all (set other 0 0) (none-put (told (a .faults)) other (many ∙ none) (omega arith))
 
 pub reads-one : {l old other new others new′ others′ : List ℕ} {a : Answer} {r s : ℕ} → Reads l a old other r new others
     → Reads l a old other s new′ others′ → (r ≡ s) × (new ≡ new′) × (others ≡ others′)
 reads-one x y = (x .answer ∙ sym (y .answer), x .fields ∙ sym (y .fields), x .faults ∙ sym (y .faults))
-
--- ---- beside the listing
-two-words : (l : List ℕ) (column : ℕ) (v : Value) → length (valueWords l column v) ≡ cond (present v) 2 0
-two-words l column (Unsigned n) = refl
-two-words l column (Signed n) = refl
-two-words l column (Real x places) = refl
-two-words l column (Factor x) = refl
-two-words l column (Words t) = refl
-two-words l column (One (At place)) = refl
-two-words l column (One Unreached) = refl
-two-words l column (One Absent) = refl
-two-words l column (Flag b) = refl
-two-words l column Nothing = refl
-
-pub words-listed : (l : List ℕ) (row : Row) → length (rowWords l row) ≡ cond (present (row .1)) 2 0
-unfolding rowWords
-words-listed l row = two-words l (row .0) (row .1)

@@ -1,21 +1,22 @@
--- `wording::putput_faults` meets its contract. The loop's invariant: the words of the faults before i are put behind the place of their number.
+-- `reading::putput_faults` meets its contract. The loop's invariant: the words of the faults before i are put behind the place of their number.
 -- Assumes nothing.
 use Prim.Native.Nat.{_+_, _-_, _*_, _≤_}
 use mathlib.Core.Path.{_≡_, refl, _∙_}
 use native.Mathlib.Omega.{arith}
-use lib.ListN.{length, take, length-set}
+use lib.ListN.{length, take, set, length-set}
 use Rattle.layout.specs.Each.{each}
 use Rattle.line.specs.Faults.{blankFault}
 use Rattle.kind.specs.declared.Kind.the-variants.{Empty}
 use Rattle.lexitem.specs.Fault.{told}
 use Rattle.lexitem.specs.declared.fault.LineFault.{LineFault}
 use Rattle.lexitem.proofs.Laws.Fault.{told-at}
-use Rattle.wording.specs.Faults.{faultWords, faultsWords}
+use Rattle.reading.specs.Faults.{faultWords, faultsWords}
 use Rattle.wording.specs.Put.{Puts}
-use Rattle.wording.proofs.Laws.Words.{puts-none, puts-next, puts-all, front-one}
+use Rattle.wording.proofs.Laws.Words.{puts-none, puts-next, puts-all}
+use Rattle.reading.proofs.Laws.Faults.{puts-fault, front-one}
 use borrow.Author.Needs.{needs}
-use Rattle.wording.proofs.put.put_faults.Statement.{statement}
-use Rattle.wording.proofs.put.put_faults.Tie as tie
+use Rattle.reading.proofs.faults.put_faults.Statement.{statement}
+use Rattle.reading.proofs.faults.put_faults.Tie as tie
 
 -- where there is no fault
 abbrev none : LineFault
@@ -35,15 +36,34 @@ loop-holds c = (omega arith, refl, omega arith, refl, puts-none _ _)
 at-requires : tie.Need-at-requires Inv-loop μ-loop
 at-requires c κs = search needs
 
+mul-out : tie.Need-mul-out Inv-loop μ-loop
+mul-out c = search needs
+
+slice-write-out : tie.Need-slice-write-out Inv-loop μ-loop
+slice-write-out c =
+    let l = c .before .before .loop .inv in
+    let start = c .before .before .before .before .pre in
+    let here = c .before .loop-test .taken in
+    omega arith
+
 fault-word-requires : tie.Need-fault-word-requires Inv-loop μ-loop
 fault-word-requires c κs = search needs
 
-put-two-requires : tie.Need-put-two-requires Inv-loop μ-loop
-put-two-requires c κs =
-    let l = c .before .before .before .before .loop .inv in
-    let start = c .before .before .before .before .before .before .pre in
-    let here = c .before .before .before .loop-test .taken in
-    omega arith
+add-out : tie.Need-add-out Inv-loop μ-loop
+add-out c = search needs
+
+mul-out-2 : tie.Need-mul-out-2 Inv-loop μ-loop
+mul-out-2 c = search needs
+
+slice-write-out-2 : tie.Need-slice-write-out-2 Inv-loop μ-loop
+slice-write-out-2 c =
+    let l = c .before .before .before .loop .inv in
+    let start = c .before .before .before .before .before .pre in
+    let here = c .before .before .loop-test .taken in
+    simp length-set (omega arith)
+
+add-next : tie.Need-add-next Inv-loop μ-loop
+add-next c = search needs
 
 add-i : tie.Need-add-i Inv-loop μ-loop
 add-i c = search needs
@@ -52,24 +72,22 @@ loop-less : tie.Need-loop-less Inv-loop μ-loop
 loop-less c = search needs
 
 loop-again : tie.Need-loop-again Inv-loop μ-loop
-unfolding faultWords
 loop-again c =
-    let l = c .before .before .before .before .before .before .before .loop in
-    let start = c .before .before .before .before .before .before .before .before .before in
+    let l = c .before .before .before .loop in
+    let start = c .before .before .before .before .before in
     let a = start .args in
-    let here = c .before .before .before .before .before .before .loop-test .taken in
+    let here = c .before .before .loop-test .taken in
     let room = start .pre in
-    let far = c .before .before .put-two .ensures .behind in
-    let put = rw (c .before .before .before .fault-word .ensures, c .before .before .before .before .before .at .ensures, told-at (a .faults) (l .i) none (omega arith)) at (c .before .before .put-two .ensures) in (
+    let put = puts-fault (l .out) (l .next) _ _ _ (c .before .at .ensures ∙ told-at (a .faults) (l .i) none (omega arith)) (c .fault-word .ensures) in (
       omega arith,
-      search needs,
+      length-set (set (l .out) (l .next) _) _ _ ∙ length-set (l .out) (l .next) _ ∙ l .inv .1,
       omega arith,
       refl,
       puts-next faultWords (told (a .faults)) _ _ (l .i) none _ _ _ _ (omega arith) (l .inv .4) put,
     )
 
-slice-write-out : tie.Need-slice-write-out Inv-loop μ-loop
-slice-write-out c =
+slice-write-out-3 : tie.Need-slice-write-out-3 Inv-loop μ-loop
+slice-write-out-3 c =
     let l = c .before .loop .inv in
     let start = c .before .before .before .pre in
     omega arith
@@ -97,11 +115,16 @@ put-faults-spec =
     μ-loop
     loop-holds
     at-requires
+    mul-out
+    slice-write-out
     fault-word-requires
-    put-two-requires
+    add-out
+    mul-out-2
+    slice-write-out-2
+    add-next
     add-i
     loop-less
     loop-again
-    slice-write-out
+    slice-write-out-3
     same-length
     returns)

@@ -1,0 +1,3 @@
+-- The words that the contracts of this crate cite.
+pub mod Faults
+pub mod Read
