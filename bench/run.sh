@@ -6,6 +6,7 @@
 #
 # PDBTBX_SRC      the folder with src/read/pdb/lexer.rs; otherwise ../shared/docs/src beside the repository
 # BENCH_READ      the port's static library; otherwise `rt staticlib bench_read` makes it
+# SALTIGHEDDA     the library that hosts link; otherwise `rt staticlib saltighedda` makes it
 # RUSTC CC CXX    the compilers; otherwise rustc, cc and c++
 set -eu
 [ "$(uname -m)" = x86_64 ] || { echo "run.sh: the port is compiled for x86-64; a time under an emulator says nothing" >&2; exit 2; }
@@ -30,12 +31,19 @@ PDBTBX_SRC=$(cd "$source" && pwd)
 export PDBTBX_SRC
 
 mkdir -p "$made"
-if [ -z "${BENCH_READ:-}" ]; then
-    (cd "$repository" && rt staticlib bench_read) >"$made/staticlib.log" 2>&1 || {
+library() {
+    (cd "$repository" && rt staticlib "$1") >"$made/staticlib.log" 2>&1 || {
         cat "$made/staticlib.log" >&2
         exit 1
     }
+}
+if [ -z "${BENCH_READ:-}" ]; then
+    library bench_read
     BENCH_READ=$repository/target/staticlib/libbench_read.a
+fi
+if [ -z "${SALTIGHEDDA:-}" ]; then
+    library saltighedda
+    SALTIGHEDDA=$repository/target/staticlib/libsaltighedda.a
 fi
 
 rust() {
@@ -44,8 +52,9 @@ rust() {
 rust --crate-type rlib --crate-name rust_copying --cfg copying -o "$made/librust_copying.rlib" "$here/src/rust.rs"
 rust --crate-type rlib --crate-name rust_light -o "$made/librust_light.rlib" "$here/src/rust.rs"
 "${CC:-cc}" -std=c11 -Wall -Wextra -O3 -c -o "$made/floor.o" "$here/floor.c"
-words=(-C "link-arg=$BENCH_READ" -C "link-arg=$made/floor.o")
-sides=(port:saltighedda_bench rust-copying:bench_rust_copying rust-light:bench_rust_light floor:bench_floor)
+"${CC:-cc}" -std=c11 -Wall -Wextra -O3 -I"$repository/include" -c -o "$made/words.o" "$here/words.c"
+words=(-C "link-arg=$BENCH_READ" -C "link-arg=$made/floor.o" -C "link-arg=$made/words.o" -C "link-arg=$SALTIGHEDDA")
+sides=(port:saltighedda_bench words:bench_words rust-copying:bench_rust_copying rust-light:bench_rust_light floor:bench_floor)
 if echo '#include <gemmi/pdb.hpp>' | "${CXX:-c++}" -E -x c++ - >/dev/null 2>&1; then
     "${CXX:-c++}" -std=c++17 -O3 -c -o "$made/gemmi.o" "$here/gemmi.cpp"
     words+=(--cfg gemmi -C "link-arg=$made/gemmi.o" -l dylib=stdc++)
@@ -66,5 +75,5 @@ for side in "${sides[@]}"; do
         >"$out.log" 2>&1 || { cat "$out.log" >&2; exit 1; }
     awk -v word="$word" -v lines=$lines '/^(summary|totals):/ { n = $2 } END { printf "%-14s %8.0f\n", word, n / lines }' "$out"
 done
-[ ${#sides[@]} = 5 ] || echo "gemmi isn't installed here, and had no turn"
+[ ${#sides[@]} = 6 ] || echo "gemmi isn't installed here, and had no turn"
 echo "who has them: callgrind_annotate target/bench/callgrind.SIDE"

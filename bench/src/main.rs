@@ -13,7 +13,7 @@ const USAGE: &str = "bench [--lines N] [--passes N] [--seed N]
     times every side N times (15; at least 9), in turn, on a file of N lines (500,000),
     then those that note faults on a fifth as many, one in a hundred of them faulted
 bench --once SIDE [--lines N] [--seed N]
-    lets one side read the file once: port, rust-copying, rust-light, floor or gemmi";
+    lets one side read the file once: port, words, rust-copying, rust-light, floor or gemmi";
 
 const LINES: usize = 500_000;
 const PASSES: usize = 15;
@@ -21,9 +21,16 @@ const FEWEST: usize = 9;
 const SEED: u64 = 330;
 const FAULTED: u64 = 100;
 
+/// The side of a host, and the one that its time is held against.
+const WORDS: &str = "words";
+const COPYING: &str = "rust-copying";
+/// How many times the host's time the copying Rust is to take.
+const HOST_AIM: f64 = 5.0;
+
 // Nothing checks these declarations against the libraries.
 extern "C" {
     fn saltighedda_bench(file: *const u8, length: usize) -> u64;
+    fn bench_words(file: *const u8, length: usize) -> u64;
     fn bench_floor(file: *const u8, length: usize) -> u64;
     #[cfg(gemmi)]
     fn bench_gemmi(file: *const u8, length: usize) -> u64;
@@ -60,7 +67,14 @@ const SIDES: &[Side] = &[
         aim: 1.0,
     },
     Side {
-        word: "rust-copying",
+        word: WORDS,
+        name: "a host in C, saltighedda_read",
+        read: |file| unsafe { bench_words(file.as_ptr(), file.len()) },
+        answer: Answer::Faults,
+        aim: 1.0,
+    },
+    Side {
+        word: COPYING,
         name: "the Rust, context copies the line",
         read: rust_copying::read,
         answer: Answer::Faults,
@@ -208,11 +222,12 @@ fn print(sides: &[&Side], times: &mut [Vec<f64>]) {
         "", "lines/s", "best", "ns/line", "best", "times port", "best"
     );
     let port = (median(&mut times[0]), best(&times[0]));
+    let host = ratio_of(sides, times);
     for (side, times) in sides.iter().zip(times) {
         let (median, best) = (median(times), best(times));
         let ratio = median / port.0;
         let aim = match side.word {
-            "port" => String::new(),
+            "port" | WORDS => String::new(),
             _ if ratio >= side.aim => format!("{}, met", side.aim),
             _ => format!("{}, NOT met", side.aim),
         };
@@ -224,6 +239,20 @@ fn print(sides: &[&Side], times: &mut [Vec<f64>]) {
             best / port.1,
         );
     }
+    if let Some((median, best)) = host {
+        let met = if median >= HOST_AIM { "met" } else { "NOT met" };
+        println!("the copying Rust takes {median:.2} times the host's time, best {best:.2}; aim {HOST_AIM}, {met}");
+    }
+}
+
+/// How many times the host's time the copying Rust takes, by the median and by the best.
+fn ratio_of(sides: &[&Side], times: &mut [Vec<f64>]) -> Option<(f64, f64)> {
+    let host = sides.iter().position(|side| side.word == WORDS)?;
+    let rust = sides.iter().position(|side| side.word == COPYING)?;
+    Some((
+        median(&mut times[rust]) / median(&mut times[host]),
+        best(&times[rust]) / best(&times[host]),
+    ))
 }
 
 fn median(times: &mut [f64]) -> f64 {
