@@ -3,6 +3,7 @@ pub mod Bytes
 pub mod Kinds
 pub mod Mended
 pub mod Cut
+pub mod Chain
 pub mod Changes
 pub mod Held
 pub mod Steps

@@ -1,6 +1,6 @@
 -- `mend::cut::cut_basics` meets its contract.
 -- Assumes nothing.
-use Rattle.mend.proofs.Laws.Cut.{alternate-uncut, chain-uncut, insertion-uncut}
+use Rattle.mend.proofs.Laws.Chain.{basics-chain}
 use borrow.Author.Needs.{needs}
 use Rattle.mend.proofs.cut.cut_basics.Statement.{statement}
 use Rattle.mend.proofs.cut.cut_basics.Tie as tie
@@ -28,18 +28,14 @@ or-cut-requires-7 c κs = search needs
 
 returns : tie.Need-returns
 returns c =
-    simp (
-      c .or-cut7 .ensures,
-      c .before .or-cut6 .ensures,
-      c .before .before .or-cut5 .ensures,
-      c .before .before .before .or-cut4 .ensures,
-      c .before .before .before .before .or-cut3 .ensures,
-      c .before .before .before .before .before .or-cut2 .ensures,
-      c .before .before .before .before .before .before .or-cut .ensures,
-      alternate-uncut,
-      chain-uncut,
-      insertion-uncut,
-    )
+    basics-chain _ _ _ _ _ _ _ _ _
+    (c .before .before .before .before .before .before .or-cut .ensures)
+    (c .before .before .before .before .before .or-cut2 .ensures)
+    (c .before .before .before .before .or-cut3 .ensures)
+    (c .before .before .before .or-cut4 .ensures)
+    (c .before .before .or-cut5 .ensures)
+    (c .before .or-cut6 .ensures)
+    (c .or-cut7 .ensures)
 
 pub cut-basics-spec : {M : Type 1} → statement M
 cut-basics-spec =

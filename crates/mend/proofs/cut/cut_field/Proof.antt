@@ -1,6 +1,7 @@
 -- `mend::cut::cut_field` meets its contract.
 -- Assumes nothing.
 use Rattle.mend.specs.Mend.{cutField}
+use Rattle.mend.proofs.Laws.Chain.{field-chain}
 use borrow.Author.Needs.{needs}
 use Rattle.mend.proofs.cut.cut_field.Statement.{statement}
 use Rattle.mend.proofs.cut.cut_field.Tie as tie
@@ -29,15 +30,14 @@ cut-basics-requires c κs = search needs
 returns : tie.Need-returns
 unfolding cutField
 returns c =
-    simp (
-      c .cut-basics .ensures,
-      c .before .or-cut5 .ensures,
-      c .before .before .or-cut4 .ensures,
-      c .before .before .before .or-cut3 .ensures,
-      c .before .before .before .before .or-cut2 .ensures,
-      c .before .before .before .before .before .or-cut .ensures,
-      c .before .before .before .before .before .before .new .ensures,
-    )
+    field-chain _ _ _ _ _ _ _ _
+    (c .before .before .before .before .before .before .new .ensures)
+    (c .before .before .before .before .before .or-cut .ensures)
+    (c .before .before .before .before .or-cut2 .ensures)
+    (c .before .before .before .or-cut3 .ensures)
+    (c .before .before .or-cut4 .ensures)
+    (c .before .or-cut5 .ensures)
+    (c .cut-basics .ensures)
 
 pub cut-field-spec : {M : Type 1} → statement M
 cut-field-spec =
