@@ -46,10 +46,10 @@ pub struct Desk {
 
 impl Desk {
     /// A desk with the program that the command runs as its port, or with none.
-    pub fn new(command: &[String]) -> io::Result<Self> {
+    pub fn new(command: &[String], tables: &Tables) -> io::Result<Self> {
         let port = match command {
             [] => None,
-            command => Some(Port::start(command)?),
+            command => Some(Port::start(command, tables)?),
         };
         let inputs = vec![Input::new(); BLOCK];
         Ok(Desk { oracle: Oracle::new(), port, inputs, due: Vec::new() })
@@ -77,11 +77,8 @@ impl Desk {
             let (listing, item) = (self.oracle.page.bytes.clone(), self.oracle.item.take());
             self.due.push(Due { verdict, listing, item });
         }
-        if let Some(port) = &mut self.port {
-            port.receive()?;
-        }
-        for (at, (input, due)) in inputs.iter().zip(&self.due).enumerate() {
-            let answer = self.port.as_ref().map(|port| port.answer(at));
+        for (input, due) in inputs.iter().zip(&self.due) {
+            let answer = self.port.as_mut().map(Port::answer).transpose()?;
             tell(input, due, answer.as_ref());
         }
         Ok(())

@@ -57,7 +57,7 @@ const USUAL_SEED: u64 = 330;
 /// How many cases are drawn from to choose a sample.
 const SAMPLED: u64 = 2_000_000;
 /// How many cases a thread takes at a time: whole blocks of requests.
-const STRIDE: u64 = 256 * BLOCK as u64;
+const STRIDE: u64 = 128 * BLOCK as u64;
 
 enum Mode {
     Compare,
@@ -223,7 +223,7 @@ fn share<T: Send>(
 /// One thread's share of the cases, with a port of its own.
 fn run(plan: &Plan, tables: &Tables, port: &[String], next: &AtomicU64) -> io::Result<Tally> {
     let mut tally = Tally::default();
-    let mut desk = Desk::new(port)?;
+    let mut desk = Desk::new(port, tables)?;
     loop {
         let first = next.fetch_add(STRIDE, Ordering::Relaxed);
         if first >= plan.count {
@@ -264,7 +264,7 @@ fn verdict(tally: &Tally, tables: &Tables, port: &[String]) -> io::Result<ExitCo
             _ => "what 01 says",
         };
         println!("\nDIFFERENCE in {} lines: {name}; held to {kept}", part.wrong);
-        explain(shown, *class, tables, &mut Desk::new(port)?)?;
+        explain(shown, *class, tables, &mut Desk::new(port, tables)?)?;
     }
     let lines: u64 = tally.parts.iter().map(|part| part.lines).sum();
     let domain = tally.parts[Class::Domain as usize].lines;

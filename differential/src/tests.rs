@@ -1,12 +1,15 @@
 //! The oracle alone: 01's example, its edge lines, and hand-made lines with their listings. Then the
-//! writer alone, on lines that stand as they have to be written, and on records made by hand.
+//! writer alone, on lines that stand as they have to be written, and on records made by hand. Then
+//! what is taken from a port, on replies made by hand.
 
 use crate::columns::{kind_of, KINDS};
 use crate::good::GOOD;
 use crate::oracle::{Oracle, Refusal};
+use crate::port::{Replies, OUTPUT, UNWRITTEN};
 use crate::random::Random;
 use crate::rust::lexitem::LexItem;
 use crate::sample::{lines, listed};
+use crate::sorts::Sorts;
 use crate::tables::{self, Tables};
 use crate::writing::{self, nearest, places_of};
 use crate::{rust, Input};
@@ -523,4 +526,45 @@ fn places_of_a_field() {
             assert_eq!(places_of(Some(format!("-7.{}", digit.repeat(places)).as_bytes())), places as u32);
         }
     }
+}
+
+/// A reply: its six words, and the bytes of output that are sent.
+fn reply(words: [u64; 6], sent: &[u8]) -> Vec<u8> {
+    let all = words.into_iter().chain([sent.len() as u64]);
+    all.flat_map(u64::to_le_bytes).chain(sent.iter().copied()).collect()
+}
+
+#[test]
+fn what_a_reply_does_not_send_is_unwritten() {
+    let mut sent = [b'x'; 128];
+    sent[100..].fill(UNWRITTEN);
+    let all = [
+        reply([1, 2, 3, 4, 5, u64::MAX], &sent),
+        reply([0; 6], &[b'y'; 64]),
+        reply([6; 6], &[b'z'; OUTPUT]),
+        reply([0; 6], &[]),
+    ];
+    let bytes = all.concat();
+    let mut replies = Replies::new(&bytes[..]);
+
+    let answer = replies.take().unwrap();
+    assert_eq!((answer.written, answer.sorts, answer.faults_line), (1, Sorts(5), u64::MAX));
+    assert_eq!(answer.refusal, Refusal { number: 2, place: 3, length: 4 });
+    assert_eq!(answer.output.len(), OUTPUT);
+    assert_eq!(answer.output[..128], sent);
+    assert!(answer.output[128..].iter().all(|byte| *byte == UNWRITTEN));
+    let answer = replies.take().unwrap();
+    assert_eq!(answer.output[..64], [b'y'; 64]);
+    assert!(answer.output[64..].iter().all(|byte| *byte == UNWRITTEN));
+    assert_eq!(replies.take().unwrap().output, [b'z'; OUTPUT]);
+    assert_eq!(replies.take().unwrap().output, [UNWRITTEN; OUTPUT]);
+    assert!(replies.take().is_err());
+}
+
+#[test]
+fn a_reply_with_too_much_output_or_too_little_is_an_error() {
+    let long = reply([0; 6], &[0; OUTPUT + 1]);
+    assert!(Replies::new(&long[..]).take().is_err());
+    let short = reply([0; 6], &[0; 64]);
+    assert!(Replies::new(&short[..short.len() - 1]).take().is_err());
 }

@@ -248,7 +248,7 @@ pub fn write_all(words: &Words, count: u64, tables: &Tables) -> io::Result<ExitC
 /// One thread's share of the cases, with a port of its own.
 fn run(plan: &Plan, tables: &Tables, port: &[String], next: &AtomicU64) -> io::Result<[Tally; 2]> {
     let mut tallies: [Tally; 2] = Default::default();
-    let mut desk = Desk::new(port)?;
+    let mut desk = Desk::new(port, tables)?;
     loop {
         let first = next.fetch_add(STRIDE, Ordering::Relaxed);
         if first >= plan.count {
@@ -276,7 +276,7 @@ fn verdict(tallies: &[Tally; 2], tables: &Tables, port: &[String]) -> io::Result
         for (why, (count, shown)) in &tally.wrong {
             println!("\nDIFFERENCE in {count} records, {way}: {why}");
             if let Some(shown) = shown {
-                explain(shown, tables, &mut Desk::new(port)?)?;
+                explain(shown, tables, &mut Desk::new(port, tables)?)?;
             }
         }
     }

@@ -1,18 +1,21 @@
 // Answers over pipes what the four entries of `saltighedda` that list a line answer, for a host on a processor that can't call them; what
 // `saltighedda_read` says of its faults and no listing shows; and what `write_record` and `write_as_read` make of the record that was read.
-// Standard input comes in blocks of 15 requests of 4,096 bytes; for each block 15 replies of 4,208 bytes are written to standard output at
-// once. The program ends when the input ends or a write fails, and a block that isn't whole is not answered.
+// Standard input comes in blocks: a word with the size, and then so many bytes, 65,536 at most. The first block holds the remark tables, and
+// has no reply. Every other one holds requests, one behind the other, and once it is there whole, a reply to each is written to standard output,
+// in the same order. The program ends when the input ends or a write fails, and at a block that is empty, too long or not whole, which isn't
+// answered.
 //
-// Both begin with words of eight bytes, the lowest first:
+// A word has eight bytes, the lowest first. Requests and replies begin with words:
 //
 //     a request                                        a reply
 //      0  the line's number                             0  what saltighedda_list answered
 //      8  the options, and the task in bits 32, 33      8  saltighedda_list_refusal
 //     16  the length of the line                       16  saltighedda_list_place
-//     24  the length of the remark table               24  saltighedda_list_length
-//     32  the room                                     32  the sorts of the faults that saltighedda_read told
-//     40  the line, and directly behind it the table   40  the line number that these faults have
-//                                                      48  4,160 bytes of output
+//     24  where the table begins in the first block    24  saltighedda_list_length
+//     32  the length of the table                      32  the sorts of the faults that saltighedda_read told
+//     40  the room                                     40  the line number that these faults have
+//     48  the line                                     48  how many bytes of output follow
+//                                                      56  the output
 //
 // A sort is 1 for unsigned, 2 for signed, 3 for real, and 0 for a fault that isn't a 2 or where there is none. There are at most fifteen
 // faults, and each has two bits of the word, the first fault the lowest; the upper half of the word is 0. The line number is 0 if there is no
@@ -25,10 +28,13 @@
 // was written, else the record's refusal as the entries for C pack it (number * 2^48 + place * 2^32 + length), or 2^64-2 if the line was refused.
 // The five words behind it are 0.
 //
-// The output is all 0xC5 before the calls, and as many of its bytes as there is room are lent to them. So the asker sees each byte as it
-// was left, also behind what was lent. If the line and the table don't fit into their request, or the room is over 4,096, nothing is
-// called: the reply's first word is 2^64-1, and all its other bytes are 0xC5.
-ghost use Prim.Native.Nat.{_+_, _≤_};
+// The output has 4,160 bytes, which are all 0xC5 before the calls, and as many of them as there is room are lent to these. Of its 65 chunks of
+// 64 bytes those are sent up to the last in which a byte isn't 0xC5 any more. So the asker knows each byte as it was left, also behind what was
+// lent: what isn't sent is 0xC5.
+//
+// If the table doesn't lie within the first block, or the room is over 4,096, nothing is called: the reply's first word is 2^64-1, the others
+// are 0, and no output is sent. What is left of a block when it isn't a whole request has one such reply.
+ghost use Prim.Native.Nat.{_+_, _<_, _≤_};
 ghost use lib.ListN.{length};
 use lexer::lex_line;
 use lexitem::answer::Answer;
@@ -47,31 +53,31 @@ use sheet::Written;
 use writer::write_as_read;
 use writer::write_record;
 
-// A pipe of 65,536 bytes holds the replies to so many, and to no more.
-const REQUESTS: usize = 15;
+// The most bytes of a block.
+const BLOCK: usize = 65536;
 
-const REQUEST: usize = 4096;
+// So many bytes of replies are written together: what a pipe holds.
+const REPLIES: usize = 65536;
 
-const REPLY: usize = 4208;
+// The longest reply.
+const REPLY: usize = OUTPUT + CHUNKS * CHUNK;
 
-const BLOCK: usize = REQUESTS * REQUEST;
+const WORD: usize = 8;
 
-const REPLIES: usize = REQUESTS * REPLY;
-
-// Where the parts of a request begin, and how many bytes its line and its table may have.
+// Where the parts of a request begin.
 const NUMBER: usize = 0;
 
 const OPTIONS: usize = 8;
 
 const LINE_LENGTH: usize = 16;
 
-const TABLE_LENGTH: usize = 24;
+const TABLE: usize = 24;
 
-const ROOM: usize = 32;
+const TABLE_LENGTH: usize = 32;
 
-const LINE: usize = 40;
+const ROOM: usize = 40;
 
-const TEXT: usize = REQUEST - LINE;
+const LINE: usize = 48;
 
 // Where the parts of a reply begin.
 const WRITTEN: usize = 0;
@@ -86,12 +92,21 @@ const SORTS: usize = 32;
 
 const FAULTS_LINE: usize = 40;
 
-const OUTPUT: usize = 48;
+const SENT: usize = 48;
+
+const OUTPUT: usize = 56;
 
 // Every listing has room in so much. The output has 64 bytes more, which are never lent.
 const MOST_ROOM: usize = 4096;
 
+const CHUNK: usize = 64;
+
+const CHUNKS: usize = 65;
+
 const MARK: u8 = 0xC5;
+
+// No place for a reply.
+const NOWHERE: usize = usize::MAX;
 
 const NOT_CALLED: usize = usize::MAX;
 
@@ -308,6 +323,51 @@ fn tell(line: &[u8], number: usize, options: usize, remarks: &[u8], out: &mut [u
     ask(line, number, low, remarks, out)
 }
 
+// The answer to what can't be asked.
+fn not_called() -> Told {
+    Told {
+        written: NOT_CALLED,
+        refusal: 0,
+        place: 0,
+        length: 0,
+        sorts: 0,
+        faults_line: 0,
+    }
+}
+
+// Answers what should be a request. The lengths are tested before they are added, so no sum is too large.
+fn call(request: &[u8], tables: &[u8], out: &mut [u8]) -> Told
+    requires { ⌜ 4096 ≤ length (now out) ⌝ }
+{
+    if request.len() < LINE {
+        return not_called();
+    }
+    if word(request, LINE_LENGTH) != request.len() - LINE {
+        return not_called();
+    }
+    let table = word(request, TABLE);
+    if tables.len() < table {
+        return not_called();
+    }
+    let table_length = word(request, TABLE_LENGTH);
+    if tables.len() - table < table_length {
+        return not_called();
+    }
+    let room = word(request, ROOM);
+    if MOST_ROOM < room {
+        return not_called();
+    }
+    let number = word(request, NUMBER);
+    let options = word(request, OPTIONS);
+    tell(
+        &request[LINE..],
+        number,
+        options,
+        &tables[table..table + table_length],
+        &mut out[0..room],
+    )
+}
+
 fn put_told(reply: &mut [u8], told: Told)
     requires { ⌜ 48 ≤ length (now reply) ⌝ }
 {
@@ -319,73 +379,139 @@ fn put_told(reply: &mut [u8], told: Told)
     put_word(reply, FAULTS_LINE, told.faults_line);
 }
 
-// A reply says that nothing was called until something is. The lengths are tested before they are added, so no sum is too large.
-fn answer(request: &[u8], reply: &mut [u8])
-    requires { ⌜ 4096 ≤ length (now request) ⌝ }
-    requires { ⌜ 4208 ≤ length (now reply) ⌝ }
+// Whether a chunk is as it was marked. There is no way out before the last byte, so that many can be looked at together.
+fn is_marked(chunk: &[u8]) -> bool
+    requires { ⌜ 64 ≤ length (now chunk) ⌝ }
 {
-    put_word(reply, WRITTEN, NOT_CALLED);
-    let line = word(request, LINE_LENGTH);
-    if TEXT < line {
-        return;
-    }
-    let table = word(request, TABLE_LENGTH);
-    if TEXT - line < table {
-        return;
-    }
-    let room = word(request, ROOM);
-    if MOST_ROOM < room {
-        return;
-    }
-    let number = word(request, NUMBER);
-    let options = word(request, OPTIONS);
-    let behind = LINE + line;
-    let told = tell(
-        &request[LINE..behind],
-        number,
-        options,
-        &request[behind..behind + table],
-        &mut reply[OUTPUT..OUTPUT + room],
-    );
-    put_told(reply, told);
-}
-
-// The lengths are tested, though they always suffice, so that no caller has to prove them.
-fn answer_all(requests: &[u8], replies: &mut [u8]) {
+    let mut other = 0u8;
     let mut i = 0;
-    while i < REQUESTS {
-        let from = i * REQUEST;
-        let to = i * REPLY;
-        if requests.len() < from + REQUEST {
-            return;
-        }
-        if replies.len() < to + REPLY {
-            return;
-        }
-        answer(
-            &requests[from..from + REQUEST],
-            &mut replies[to..to + REPLY],
-        );
+    while i < CHUNK {
+        other = other | chunk[i] ^ MARK;
         i += 1;
     }
+    other == 0
+}
+
+// How many bytes of the output are to be sent.
+fn changed(out: &[u8]) -> usize
+    requires { ⌜ 4160 ≤ length (now out) ⌝ }
+    ensures { λ r. ⌜ r ≤ 4160 ⌝ }
+{
+    let mut n = CHUNKS;
+    while 0 < n && is_marked(&out[(n - 1) * CHUNK..n * CHUNK]) {
+        n -= 1;
+    }
+    n * CHUNK
+}
+
+// Puts the reply to what should be a request, and says how many bytes it has. Those behind it are marks, as all were.
+fn answer(request: &[u8], tables: &[u8], reply: &mut [u8]) -> usize
+    requires { ⌜ 4216 ≤ length (now reply) ⌝ }
+    ensures { λ r. ⌜ r ≤ 4216 ⌝ }
+{
+    let told = call(request, tables, &mut reply[OUTPUT..]);
+    put_told(reply, told);
+    let n = changed(&reply[OUTPUT..]);
+    put_word(reply, SENT, n);
+    OUTPUT + n
+}
+
+// Where the request that begins here ends; if there isn't a whole one, the end of the block.
+fn end_of(block: &[u8], at: usize) -> usize
+    requires { ⌜ at < length (now block) ⌝ }
+    ensures { λ r. ⌜ at < r ⌝ }
+    ensures { λ r. ⌜ r ≤ length (now (block .entry)) ⌝ }
+{
+    let rest = block.len() - at;
+    if rest < LINE {
+        return block.len();
+    }
+    let line = word(block, at + LINE_LENGTH);
+    if rest - LINE < line {
+        return block.len();
+    }
+    at + LINE + line
+}
+
+// Writes so many bytes of replies, and makes them marks again.
+fn send(replies: &mut [u8], n: usize) -> bool
+    requires { ⌜ n ≤ length (now replies) ⌝ }
+{
+    let sent = io::write_all(STDOUT_FILENO, &replies[0..n]);
+    mark(&mut replies[0..n]);
+    sent
+}
+
+// Where the next reply goes: behind the others, or if there is no room, in front once they are written. If that fails, it goes nowhere.
+fn place_for(replies: &mut [u8], to: usize) -> usize
+    requires { ⌜ to ≤ length (now replies) ⌝ }
+{
+    if REPLY <= replies.len() - to {
+        return to;
+    }
+    if send(replies, to) { 0 } else { NOWHERE }
+}
+
+// Answers each request of a block.
+fn answer_all(block: &[u8], tables: &[u8], replies: &mut [u8]) -> bool
+    requires { ⌜ 4216 ≤ length (now replies) ⌝ }
+{
+    let mut at = 0;
+    let mut to = 0;
+    while at < block.len() {
+        let place = place_for(replies, to);
+        if replies.len() - REPLY < place {
+            return false;
+        }
+        let end = end_of(block, at);
+        let n = answer(&block[at..end], tables, &mut replies[place..place + REPLY]);
+        to = place + n;
+        at = end;
+    }
+    send(replies, to)
+}
+
+// Takes a block and says how many bytes it has, none where there is no more. It is read whole before the first reply is written: so whoever sends
+// it whole before taking the first, and takes them all before the next, never waits in vain.
+fn read_block(block: &mut [u8]) -> usize
+    ensures { λ r. ⌜ r ≤ length (now (block .exit)) ⌝ }
+{
+    let mut head = [0u8; WORD];
+    if io::read_full(STDIN_FILENO, &mut head) < WORD {
+        return 0;
+    }
+    let size = word(&head, 0);
+    if block.len() < size {
+        return 0;
+    }
+    if io::read_full(STDIN_FILENO, &mut block[0..size]) < size {
+        return 0;
+    }
+    size
 }
 
 // Answers a block, and says whether to go on.
-fn answer_block(requests: &mut [u8], replies: &mut [u8]) -> bool {
-    if io::read_full(STDIN_FILENO, requests) < requests.len() {
+fn answer_block(block: &mut [u8], tables: &[u8], replies: &mut [u8]) -> bool
+    requires { ⌜ 4216 ≤ length (now replies) ⌝ }
+{
+    let size = read_block(block);
+    if size == 0 {
         return false;
     }
-    mark(replies);
-    answer_all(requests, replies);
-    io::write_all(STDOUT_FILENO, replies)
+    answer_all(&block[0..size], tables, replies)
 }
 
 // A proved loop has to end, and nothing says that the input does: it counts its turns down from a number that no run uses up.
 fn main() {
-    let mut requests = [0u8; BLOCK];
-    let mut replies = [0u8; REPLIES];
+    let mut tables = [0u8; BLOCK];
+    let mut block = [0u8; BLOCK];
+    let mut replies = [MARK; REPLIES];
+    let n = read_block(&mut tables);
+    if n == 0 {
+        return;
+    }
     let mut turns = u64::MAX;
-    while 0 < turns && answer_block(&mut requests, &mut replies) {
+    while 0 < turns && answer_block(&mut block, &tables[0..n], &mut replies) {
         turns -= 1;
     }
 }
