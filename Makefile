@@ -12,6 +12,7 @@ version := 0.1.0
 program := target/bin/pdblist
 checker := target/bin/pdbmaster
 mender := target/bin/pdbmend
+reporter := target/bin/pdbreport
 server := target/bin/serve
 library := target/staticlib/libsaltighedda.a
 known := libsaltighedda.so.$(firstword $(subst ., ,$(version)))
@@ -19,10 +20,11 @@ shared := target/shared/libsaltighedda.so.$(version)
 sources := crates.txt $(shell find crates -type f)
 
 .NOTPARALLEL:
-.PHONY: help list master mend test needs format contracts hosts compare oracle differential bench install
+.PHONY: help list report master mend test needs format contracts hosts compare oracle differential bench install
 
 help:
 	@echo 'make list FILE=..        lists the lines of a PDB file, and what could not be read of them'
+	@echo 'make report FILE=..      whether a PDB file was read, and where not, for people'
 	@echo 'make master FILE=..      whether the lines of a PDB file are as many as its MASTER line says'
 	@echo 'make mend FILE=..        the lines of a PDB file, mended as far as that is honest; what was done is told on standard error'
 	@echo 'make test                everything that is checked: proofs, must-fail edits, test programs, hosts in C, Rust and Python, a short differential run'
@@ -34,6 +36,9 @@ help:
 
 list: $(program)
 	@tools/run $(program) < '$(FILE)'
+
+report: $(reporter)
+	@tools/run $(reporter) < '$(FILE)'
 
 master: $(checker)
 	@tools/run $(checker) < '$(FILE)'
@@ -49,7 +54,7 @@ define quietly
 	touch $@
 endef
 
-$(program) $(checker) $(mender) $(server): $(sources)
+$(program) $(checker) $(mender) $(reporter) $(server): $(sources)
 	$(call quietly,rt check $(@F))
 
 $(library): $(sources)
@@ -81,12 +86,14 @@ contracts:
 	@tests/believed.sh
 	@tests/house.sh
 	@tests/margins.sh
+	@tests/names.sh
 
-hosts: $(program) $(checker) $(mender) $(library) $(shared)
+hosts: $(program) $(checker) $(mender) $(reporter) $(library) $(shared)
 	@tests/run.sh
 	@tests/pdblist.sh
 	@tests/pdbmaster.sh
 	@tests/pdbmend.sh
+	@tests/pdbreport.sh
 	@tests/c.sh
 	@tests/shared.sh
 	@tests/rust.sh
@@ -108,11 +115,12 @@ differential: $(server)
 bench:
 	@bench/run.sh
 
-install: $(program) $(checker) $(mender) $(library) $(shared)
+install: $(program) $(checker) $(mender) $(reporter) $(library) $(shared)
 	@install -d '$(DESTDIR)$(PREFIX)/bin' '$(DESTDIR)$(PREFIX)/include' '$(DESTDIR)$(PREFIX)/lib/pkgconfig'
 	@install -m 755 $(program) '$(DESTDIR)$(PREFIX)/bin/pdblist'
 	@install -m 755 $(checker) '$(DESTDIR)$(PREFIX)/bin/pdbmaster'
 	@install -m 755 $(mender) '$(DESTDIR)$(PREFIX)/bin/pdbmend'
+	@install -m 755 $(reporter) '$(DESTDIR)$(PREFIX)/bin/pdbreport'
 	@install -m 644 include/saltighedda.h include/saltighedda_fields.h '$(DESTDIR)$(PREFIX)/include'
 	@install -m 644 $(library) '$(DESTDIR)$(PREFIX)/lib/libsaltighedda.a'
 	@if [ -f $(shared) ]; then \

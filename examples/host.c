@@ -1,6 +1,6 @@
 /*
- * A small host that reads, as a viewer would: it opens a file, walks its lines, and tells for each field that was not read which file,
- * line and columns it is about, and what was put there instead.
+ * A small host that reads, as a viewer would: it takes a file's atoms and prints the middle of those whose coordinates are the file's. What
+ * wasn't read of a line is a line each; `pdbreport` tells more of it.
  *
  *     host FILE
  *
@@ -8,52 +8,27 @@
  */
 #include "fields.h"
 
-/* What stands in a record for columns that weren't read. */
-static void print_put(const struct saltighedda_record *record, size_t column)
-{
-    const uint64_t *words = saltighedda_words_at(record, column);
-    if (words == NULL)
-        printf("; nothing was put there\n");
-    else if (SALTIGHEDDA_SORT(words[0]) == 2)
-        printf("; %.1f was put there\n", saltighedda_real(words[1]));
-    else
-        printf("; %s was put there\n", SALTIGHEDDA_SORT(words[0]) < 2 ? "0" : SALTIGHEDDA_SORT(words[0]) == 3 ? "no text" : "a blank");
-}
-
-/* Tells what was not read of a line; returns how many fields, or 1 for a refused line. */
-static size_t tell_unread(struct line *line)
+/* Reads a line and tells what was not read of it; returns how many fields, or 1 for a refused line. */
+static size_t read_line(struct line *line)
 {
     uint64_t refusal = take(line, 0);
-    if (refusal != 0) {
-        printf("%s:%zu: line not read: %s, at column %u, %u columns\n", line->file->name, line->number,
-               saltighedda_refusal_words(SALTIGHEDDA_REFUSAL(refusal)), SALTIGHEDDA_PLACE(refusal) + 1, SALTIGHEDDA_LENGTH(refusal));
-        return 1;
-    }
+    if (refusal != 0)
+        printf("%s:%zu: %s\n", line->file->name, line->number, saltighedda_refusal_words(SALTIGHEDDA_REFUSAL(refusal)));
     for (size_t n = 0; n < line->record.faults[0]; n++) {
         struct saltighedda_fault fault = saltighedda_fault_at(&line->record, n);
-        printf("%s:%zu: columns %u to %u: %s was not read: %s", line->file->name, line->number, fault.place + 1,
-               fault.place + fault.length, saltighedda_field_name(fault.kind, fault.place), saltighedda_fault_words(fault.fault));
-        print_put(&line->record, fault.place);
+        printf("%s:%zu: %s: %s\n", line->file->name, line->number, saltighedda_field_name(fault.kind, fault.place),
+               saltighedda_fault_words(fault.fault));
     }
-    return line->record.faults[0];
-}
-
-/* Whether a line is an atom, and then whether its three coordinates are the file's. */
-static int is_atom(const struct line *line, int *placed)
-{
-    struct saltighedda_atom atom;
-    if (!saltighedda_get_atom(&atom, &line->record))
-        return 0;
-    *placed = !atom.unread.x && !atom.unread.y && !atom.unread.z;
-    return 1;
+    return refusal != 0 ? 1 : line->record.faults[0];
 }
 
 int main(int argc, char **argv)
 {
     struct file file;
     struct line line = {.file = &file};
-    size_t unread = 0, atoms = 0, lost = 0;
-    int placed;
+    struct saltighedda_atom atom;
+    size_t unread = 0, atoms = 0, placed = 0;
+    double x = 0, y = 0, z = 0;
     if (argc != 2) {
         fprintf(stderr, "usage: host FILE\n");
         return 2;
@@ -63,14 +38,21 @@ int main(int argc, char **argv)
         return 2;
     }
     while (next_line(&line)) {
-        unread += tell_unread(&line);
-        if (is_atom(&line, &placed)) {
-            atoms++;
-            lost += !placed;
-        }
+        unread += read_line(&line);
+        if (!saltighedda_get_atom(&atom, &line.record))
+            continue;
+        atoms++;
+        if (atom.unread.x || atom.unread.y || atom.unread.z)
+            continue;
+        placed++;
+        x += atom.x;
+        y += atom.y;
+        z += atom.z;
     }
-    printf("%s: %zu lines; fields or lines that were not read: %zu; atoms: %zu, of which %zu without their coordinates\n", argv[1],
-           line.number, unread, atoms, lost);
+    printf("%s: %zu atoms, %zu of them placed", argv[1], atoms, placed);
+    if (placed != 0)
+        printf(", around %.3f %.3f %.3f", x / placed, y / placed, z / placed);
+    printf("\n");
     free(file.bytes);
     return finish("host", unread);
 }

@@ -43,7 +43,7 @@ form() {
             case $head in *'&mut'*) echo "says nothing of the bytes it is lent"; return 1 ;; esac
             echo equation
             ;;
-        'now (tally .exit) ≡ '*)
+        'now (tally .exit) ≡ '* | 'now (ledger .exit) ≡ '*)
             is_given "$right" || { echo "has an equation that needn't fix what it is lent"; return 1; }
             echo equation
             ;;

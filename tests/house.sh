@@ -10,14 +10,16 @@ kit="io libc os"
 # The record families: what `lexitem` stands on, but for the floors below them.
 families=$(sed -n 's/^lexitem: //p' crates.txt | tr ' ' '\n' | grep -vx 'line\|field\|row\|kind')
 
-# What a crate's files name: `use x::` and `x::` in the code, `Rattle.x.` and `Rattle·x·` in definitions and proofs. Code that holds the record
-# over all kinds has every family's types in it, and code that holds what is known of a file's lines the tally's and MASTER's.
+# What a crate's files name: `x::` at the begin of a path in the code, `Rattle.x.` and `Rattle·x·` in definitions and proofs. Code that holds the record
+# over all kinds has every family's types in it, code that holds a line's faults the kind's, and code that holds what is known of a file's lines the
+# tally's and MASTER's.
 used() {
     local known=" $(ls crates | tr '\n' ' ') $kit "
     {
         if [ "$1" != lexitem ] && grep -qrwE 'LexItem|Answer|Outcome' "crates/$1/src"; then echo "$families"; fi
+        if grep -qrw LineFaults "crates/$1/src"; then echo kind; fi
         if [ "$1" != audit ] && grep -qrw Watch "crates/$1/src"; then printf '%s\n' tally master; fi
-        find "crates/$1" -name '*.rt' -exec grep -hoE '\b[a-z_0-9]+::' {} + | sed 's/:://'
+        find "crates/$1" -name '*.rt' -exec grep -hoE '(^|[^:a-z_0-9])[a-z_0-9]+::' {} + | sed 's/:://; s/^[^a-z_0-9]//'
         find "crates/$1" \( -name '*.rt' -o -name '*.antt' \) -exec grep -hoE 'Rattle·[a-z_0-9]+' {} + | sed 's/Rattle·//'
     } | sort -u | while read -r name; do
         [ "$name" = "$1" ] || case $known in *" $name "*) echo "$name" ;; esac
