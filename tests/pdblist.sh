@@ -5,31 +5,10 @@
 set -eu
 cd "$(dirname "${BASH_SOURCE[0]}")/.."
 . tests/have.sh
-folder=$(mktemp -d)
-trap 'rm -rf "$folder"' EXIT
+tested=pdblist
+. tests/program.sh
 pdblist() {
     tools/run target/bin/pdblist
-}
-input=crates/pdblist/stdin
-output=crates/pdblist/stdout
-
-# Compares what was printed with what should have been.
-same() {
-    if ! cmp -s "$2" "$folder/printed"; then
-        echo "pdblist: $1: it printed something else" >&2
-        diff -u "$2" "$folder/printed" | head -n 20 >&2
-        exit 1
-    fi
-    echo "pdblist: $1"
-}
-
-# Wants nothing printed, and a reason on standard error. The status can't tell: the language gives a program none.
-complains() {
-    if [ -s "$folder/printed" ] || [ ! -s "$folder/why" ]; then
-        echo "pdblist: $1: no reason was given" >&2
-        exit 1
-    fi
-    echo "pdblist: $1: $(cat "$folder/why")"
 }
 
 pdblist < $input > "$folder/printed"

@@ -8,22 +8,10 @@
 # FILES are drawn, two hundred if the number isn't given.
 set -eu
 cd "$(dirname "${BASH_SOURCE[0]}")/.."
-folder=$(mktemp -d)
-trap 'rm -rf "$folder"' EXIT
+tested=pdbmaster
+. tests/program.sh
 pdbmaster() {
     tools/run target/bin/pdbmaster
-}
-input=crates/pdbmaster/stdin
-output=crates/pdbmaster/stdout
-
-# Compares what was printed with what should have been.
-same() {
-    if ! cmp -s "$2" "$folder/printed"; then
-        echo "pdbmaster: $1: it printed something else" >&2
-        diff -u "$2" "$folder/printed" | head -n 20 >&2
-        exit 1
-    fi
-    echo "pdbmaster: $1"
 }
 
 # Wants a last row.
@@ -34,15 +22,6 @@ last() {
         exit 1
     fi
     echo "pdbmaster: $1: $2"
-}
-
-# Wants nothing printed, and a reason on standard error. The status can't tell: the language gives a program none.
-complains() {
-    if [ -s "$folder/printed" ] || [ ! -s "$folder/why" ]; then
-        echo "pdbmaster: $1: no reason was given" >&2
-        exit 1
-    fi
-    echo "pdbmaster: $1: $(cat "$folder/why")"
 }
 
 pdbmaster < $input > "$folder/printed"

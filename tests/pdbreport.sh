@@ -4,23 +4,11 @@
 # Wants target/bin/pdbreport. Prints a line for each thing that holds; the status is 1 if one doesn't.
 set -eu
 cd "$(dirname "${BASH_SOURCE[0]}")/.."
-folder=$(mktemp -d)
-trap 'rm -rf "$folder"' EXIT
+tested=pdbreport
+. tests/program.sh
 export LC_ALL=C
 pdbreport() {
     tools/run target/bin/pdbreport
-}
-input=crates/pdbreport/stdin
-output=crates/pdbreport/stdout
-
-# Compares what was printed with what should have been.
-same() {
-    if ! cmp -s "$2" "$folder/printed"; then
-        echo "pdbreport: $1: it printed something else" >&2
-        diff -u "$2" "$folder/printed" | head -n 20 >&2
-        exit 1
-    fi
-    echo "pdbreport: $1"
 }
 
 # The same for what stands on standard input here.
@@ -221,14 +209,6 @@ if [ "$after" -gt $((before + 200)) ]; then
 fi
 echo "pdbreport: $before kB were held, and after 24 MB more $after kB"
 
-# Wants nothing printed, and a reason on standard error. The status can't tell: the language gives a program none.
-complains() {
-    if [ -s "$folder/printed" ] || [ ! -s "$folder/why" ]; then
-        echo "pdbreport: $1: no reason was given" >&2
-        exit 1
-    fi
-    echo "pdbreport: $1: $(cat "$folder/why")"
-}
 pdbreport <&- > "$folder/printed" 2> "$folder/why"
 complains "input that can't be read"
 pdbreport < $input 2> "$folder/why" > /dev/full
