@@ -1,6 +1,6 @@
 /* The floor: the fields of ATOM and HETATM as a plain reader in C takes them, each copied to a small buffer and handed to
-   strtol or strtod, with no check of the line's length, of what the columns hold or of what the calls say. The checksum is that
-   of crates/bench_read/specs/Checksum.antt, and as nothing is checked the faults are always 0. */
+   strtol or strtod, with no check of what the columns hold or of what the calls say, and of the line's length for the charge
+   alone. The checksum is that of crates/bench_read/specs/Checksum.antt, and as nothing is checked the faults are always 0. */
 #include <stdint.h>
 #include <stdlib.h>
 #include <string.h>
@@ -41,7 +41,7 @@ static uint64_t mixed_real(uint64_t sum, double x) {
     return mixed(sum, bits);
 }
 
-static void read_atom(struct atom *to, const char *line) {
+static void read_atom(struct atom *to, const char *line, const char *end) {
     to->hetero = line[0] == 'H';
     to->serial = whole(line, 6, 5);
     text(to->name, line, 12, 4);
@@ -57,7 +57,7 @@ static void read_atom(struct atom *to, const char *line) {
     to->b_factor = real(line, 60, 6);
     text(to->segment, line, 72, 4);
     text(to->element, line, 76, 2);
-    to->charge = line[78] == ' ' ? 0 : line[79] == '-' ? '0' - line[78] : line[78] - '0';
+    to->charge = end - line < 80 || line[78] == ' ' ? 0 : line[79] == '-' ? '0' - line[78] : line[78] - '0';
 }
 
 uint64_t bench_floor(const char *file, size_t length) {
@@ -65,9 +65,11 @@ uint64_t bench_floor(const char *file, size_t length) {
     uint64_t sum = 0;
     while (file < end) {
         const char *feed = memchr(file, '\n', end - file);
+        if (!feed)
+            feed = end;
         if (memcmp(file, "ATOM  ", 6) == 0 || memcmp(file, "HETATM", 6) == 0) {
             struct atom atom;
-            read_atom(&atom, file);
+            read_atom(&atom, file, feed);
             /* The compiler may not leave out the fields that the checksum doesn't see. */
             __asm__ volatile("" : : "r"(&atom) : "memory");
             sum = mixed_real(sum, atom.x);
@@ -77,7 +79,7 @@ uint64_t bench_floor(const char *file, size_t length) {
             sum = mixed_real(sum, atom.b_factor);
         }
         sum = mixed(sum, 0);
-        file = feed ? feed + 1 : end;
+        file = feed < end ? feed + 1 : end;
     }
     return sum;
 }

@@ -1,4 +1,4 @@
-//! The file that every side reads: ATOM and HETATM lines of 80 bytes and an LF each.
+//! The file that every side reads: ATOM and HETATM lines in one of three layouts.
 
 use crate::random::Random;
 use std::io::Write;
@@ -34,16 +34,31 @@ const HETERO: [Atom; ATOMS] = [
 const PLAIN_NAMES: [&str; 8] = ["ALA", "GLY", "LEU", "ASN", "LYS", "VAL", "SER", "THR"];
 const HETERO_NAMES: [&str; 4] = ["ATP", "HEM", " DA", "GOL"];
 
-/// The file, which depends on the seed and these numbers alone. One line in so many has a B-factor that is no number.
-pub fn file(seed: u64, lines: usize, faulted: Option<u64>) -> String {
-    let mut file = Vec::with_capacity(lines * 81);
+/// How many columns a line has, and what ends it.
+pub struct Layout {
+    pub columns: usize,
+    pub end: &'static str,
+    pub name: &'static str,
+}
+
+pub const WHOLE: Layout = Layout { columns: 80, end: "\n", name: "80 bytes and LF" };
+/// As many files have it: nothing stands behind the element.
+pub const SHORT: Layout = Layout { columns: 78, end: "\n", name: "78 bytes and LF" };
+pub const CR_LF: Layout = Layout { columns: 80, end: "\r\n", name: "80 bytes and CR LF" };
+
+/// The file, which depends on the seed and these words alone. One line in so many has a B-factor that is no number.
+pub fn file(seed: u64, lines: usize, faulted: Option<u64>, layout: &Layout) -> String {
+    let mut file = Vec::with_capacity(lines * 82);
     for index in 0..lines {
         let mut random = Random::new(seed, index as u64);
         let b_factor = match faulted {
             Some(many) if random.below(many) == 0 => "  *.**".to_string(),
             _ => b_factor(&mut random),
         };
+        let start = file.len();
         put_line(&mut file, index, &b_factor, &mut random);
+        file.truncate(start + layout.columns);
+        file.extend_from_slice(layout.end.as_bytes());
     }
     String::from_utf8(file).expect("the lines are plain")
 }
@@ -69,7 +84,7 @@ fn put_line(file: &mut Vec<u8>, index: usize, b_factor: &str, random: &mut Rando
         true => 100,
         false => random.below(100),
     };
-    writeln!(
+    write!(
         file,
         "{record}{serial:>5} {name}{alternate}{residue_name} {chain}{number:>4}{insertion}   \
          {x:>8}{y:>8}{z:>8}{:>3}.{:02}{b_factor}      {segment}   {element}{charge}",

@@ -1,5 +1,6 @@
 //! Writes the bench's file to standard output: lines SEED COUNT.
 
+#[allow(dead_code)]
 mod file;
 #[path = "../../differential/src/random.rs"]
 #[allow(dead_code)]
@@ -12,6 +13,6 @@ fn main() {
     let (Some(seed), Some(count)) = (word(1), word(2)) else {
         panic!("lines SEED COUNT");
     };
-    let file = file::file(seed, count as usize, None);
+    let file = file::file(seed, count as usize, None, &file::WHOLE);
     std::io::stdout().write_all(file.as_bytes()).expect("standard output takes the file");
 }

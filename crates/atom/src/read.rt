@@ -2,9 +2,11 @@
 // Nearly every line of a file is an atom without a fault, so an atom is read without a list of faults first. Only if a field
 // isn't fine is it read again, with the list going through, and with exponents where they are asked for.
 ghost use mathlib.Core.Path.{_≡_};
+ghost use Rattle.field.specs.Number.{fineUnsigned, fineSigned};
 ghost use Rattle.field.specs.Table.{lineNoted, tableNoted};
 ghost use Rattle.line.specs.Given.{alone, taking};
 ghost use mathlib.Core.Bool.{false};
+ghost use Rattle.atom.specs.Atom.Field.{serial, number};
 ghost use Rattle.atom.specs.Atom as specs;
 use crate::record::Anisou;
 use crate::record::Atom;
@@ -15,13 +17,16 @@ use crate::record::Position;
 use crate::record::PositionPlaces;
 use field::charge::charge;
 use field::charge::fine_charge;
+use field::number_field::FineSigned;
+use field::number_field::FineUnsigned;
 use field::number_field::factor;
-use field::number_field::fine_real;
-use field::number_field::fine_signed;
-use field::number_field::fine_unsigned;
 use field::number_field::real;
 use field::number_field::signed;
 use field::number_field::unsigned;
+use field::quick::fine_five;
+use field::quick::fine_four;
+use field::quick::fine_hundredths;
+use field::quick::fine_thousandths;
 use field::text_field::character;
 use field::text_field::fine_character;
 use field::text_field::fine_optional;
@@ -31,6 +36,11 @@ use field::text_field::text;
 use line::fault::Faults;
 use line::text::Character;
 use line::text::Text;
+use number::word::eight;
+use number::word::five;
+use number::word::four;
+use number::word::read_word;
+use number::word::six;
 
 // What was read, and whether all of its fields are fine.
 pub struct FineBasics {
@@ -173,6 +183,26 @@ fn no_basics() -> FineBasics
     }
 }
 
+fn quick_serial(line: &[u8]) -> FineUnsigned
+    ensures { λ r. ⌜ r ≡ fineUnsigned (now (line .entry)) (specs.at serial) ⌝ }
+{
+    fine_five(
+        read_word(five(Basics::SERIAL.part(line))),
+        line,
+        Basics::SERIAL,
+    )
+}
+
+fn quick_number(line: &[u8]) -> FineSigned
+    ensures { λ r. ⌜ r ≡ fineSigned (now (line .entry)) (specs.at number) ⌝ }
+{
+    fine_four(
+        read_word(four(Basics::NUMBER.part(line))),
+        line,
+        Basics::NUMBER,
+    )
+}
+
 // What the kinds share, of a line that reaches past the element: the one test spares each field its own.
 fn quick_basics(line: &[u8]) -> FineBasics
     ensures { λ r. ⌜ specs.SaysBasics (now (line .entry)) r ⌝ }
@@ -180,12 +210,12 @@ fn quick_basics(line: &[u8]) -> FineBasics
     if line.len() < Basics::ELEMENT.end as usize {
         return no_basics();
     }
-    let serial = fine_unsigned(line, Basics::SERIAL);
+    let serial = quick_serial(line);
     let name = fine_text(line, Basics::NAME);
     let alternate = fine_optional(line, Basics::ALTERNATE);
     let residue = fine_text(line, Basics::RESIDUE);
     let chain = fine_character(line, Basics::CHAIN);
-    let number = fine_signed(line, Basics::NUMBER);
+    let number = quick_number(line);
     let insertion = fine_optional(line, Basics::INSERTION);
     let segment = fine_text(line, Basics::SEGMENT);
     let element = fine_text(line, Basics::ELEMENT);
@@ -216,9 +246,24 @@ fn quick_basics(line: &[u8]) -> FineBasics
 fn quick_position(line: &[u8]) -> FinePosition
     ensures { λ r. ⌜ specs.SaysPosition (now (line .entry)) r ⌝ }
 {
-    let x = fine_real(line, Position::X, 0.0);
-    let y = fine_real(line, Position::Y, 0.0);
-    let z = fine_real(line, Position::Z, 0.0);
+    let x = fine_thousandths(
+        read_word(eight(Position::X.part(line))),
+        line,
+        Position::X,
+        0.0,
+    );
+    let y = fine_thousandths(
+        read_word(eight(Position::Y.part(line))),
+        line,
+        Position::Y,
+        0.0,
+    );
+    let z = fine_thousandths(
+        read_word(eight(Position::Z.part(line))),
+        line,
+        Position::Z,
+        0.0,
+    );
     FinePosition {
         value: Position::new(x.value, y.value, z.value),
         places: PositionPlaces {
@@ -234,8 +279,18 @@ fn quick_atom(line: &[u8], hetero: bool) -> FineAtom
     ensures { λ r. ⌜ specs.SaysAtom hetero (now (line .entry)) r ⌝ }
 {
     let position = quick_position(line);
-    let occupancy = fine_real(line, Atom::OCCUPANCY, Atom::OCCUPANCY_DEFAULT);
-    let bfactor = fine_real(line, Atom::BFACTOR, 0.0);
+    let occupancy = fine_hundredths(
+        read_word(six(Atom::OCCUPANCY.part(line))),
+        line,
+        Atom::OCCUPANCY,
+        Atom::OCCUPANCY_DEFAULT,
+    );
+    let bfactor = fine_hundredths(
+        read_word(six(Atom::BFACTOR.part(line))),
+        line,
+        Atom::BFACTOR,
+        0.0,
+    );
     let basics = quick_basics(line);
     let coordinates = position.places;
     let places = AtomPlaces {

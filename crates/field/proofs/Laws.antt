@@ -4,3 +4,4 @@ pub mod Fine
 pub mod Either
 pub mod Few
 pub mod Table
+pub mod Quick

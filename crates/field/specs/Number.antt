@@ -1,14 +1,15 @@
 -- Number fields of a line. "1 line ends before the field's last column; 2 text of the wrong sort. Place and length are the field's columns.
 -- Defaults: 0 for U, I, 0.0 for R but 1.0 at 54..60." Columns that the line doesn't reach hold the empty part, which says no number, so a
 -- field's value needs no test of its own.
-use Prim.Native.Nat.{ℕ, _-_, min}
+use Prim.Native.Nat.{ℕ, _+_, _-_, _*_, _/_, min}
 use mathlib.Core.Bool.{Bool, true, false, cond, not}
 use mathlib.Core.List.{List, [], _∷_}
 use lib.ListN.{length}
 use lib.Dec.{ltb, eqb}
 use lib.IntN.{ℤ, pos}
 use lib.Ieee.{Float, fin}
-use Rattle.number.specs.Whole.{unsignedOf, signedOf}
+use Rattle.number.specs.Whole.{unsignedOf, signedOf, withSign}
+use Rattle.number.specs.Word.{none, minusIn, frontIn, behindIn}
 use Rattle.real.specs.Real.{tenThousandthsOf}
 use Rattle.real.specs.Wide.{realWith}
 use Rattle.number.specs.declared.whole.Unsigned.{Unsigned}
@@ -156,6 +157,17 @@ fineReal on l at default =
 abbrev pub fineOf : Float → Real → FineReal
 fineOf default (R x p) = record { value = x; places = p }
 fineOf default NotR = record { value = default; places = 255 }
+
+-- by what was read of its columns as a word, or else by what is handed over
+abbrev pub realOr : Real → FineReal → FineReal
+realOr (R x p) or = record { value = x; places = p }
+realOr NotR or = or
+
+abbrev pub signedOr : ℕ → FineSigned → FineSigned
+signedOr c or = cond (eqb c none) or (record { value = withSign (minusIn c) (frontIn c); fine = true })
+
+abbrev pub unsignedOr : ℕ → FineUnsigned → FineUnsigned
+unsignedOr c or = cond (minusIn c) or (record { value = frontIn c * 10 + behindIn c / 100; fine = true })
 
 -- ---- a field's value beside the faults with its own noted
 abbrev pub gotUnsigned : List ℕ → Columns → Faults → GotUnsigned

@@ -1,7 +1,8 @@
 -- Text and character fields of a line: "T trimmed text, C one character. An empty text has place 0, length 0. A blank or unreached C at ATOM 16
 -- and 26, SEQADV 22, MODRES 22, SSBOND 21 and 35 means absent; elsewhere a blank is itself."
-use Prim.Native.Nat.{ℕ, _+_}
-use mathlib.Core.Bool.{cond}
+use Prim.Native.Nat.{ℕ, _+_, _<_}
+use mathlib.Core.Path.{_≡_}
+use mathlib.Core.Bool.{Bool, true, cond}
 use mathlib.Core.List.{List, [], _∷_}
 use lib.ListN.{length, getD}
 use lib.Dec.{ltb, eqb}
@@ -29,6 +30,10 @@ textOf place n = cond (eqb n 0) (record { place = 0; length = 0 }) (record { pla
 -- where a part's trimmed text lies, in the line that the part starts in at a column
 abbrev pub shifted : ℕ → Span → Text
 shifted start s = textOf (start + s .place) (s .length)
+
+-- trim keeps the whole of a part, which isn't empty, if that was seen
+abbrev pub SaysWhole : List ℕ → Bool → Type 0
+SaysWhole t seen = seen ≡ true → (0 < length t) × (spanOf t ≡ record { place = 0; length = length t })
 
 -- T
 unfoldable pub textAt : List ℕ → Columns → Text

@@ -2,5 +2,6 @@
 // through by value and has the field's fault noted if the field isn't fine.
 pub mod charge;
 pub mod number_field;
+pub mod quick;
 pub mod remark;
 pub mod text_field;

@@ -37,11 +37,28 @@ pub struct GotCharacter {
     pub faults: Faults,
 }
 
+// Whether the whole of a part is kept by trim, which is seen at once where its first and its last byte are over 32. Of other parts nothing is said.
+fn is_whole(part: &[u8]) -> bool
+    ensures { λ r. ⌜ specs.SaysWhole (now (part .entry)) r ⌝ }
+{
+    let n = part.len();
+    if n == 0 {
+        return false;
+    }
+    if part[0] <= 32 {
+        return false;
+    }
+    32 < part[n - 1]
+}
+
 // Where the trimmed text of a part lies in the line, the part starting there at a column.
 fn shifted(start: usize, part: &[u8]) -> Text
     requires { ⌜ start ≤ 65535 ⌝ }
     ensures { λ r. ⌜ r ≡ specs.shifted start (spanOf (now (part .entry))) ⌝ }
 {
+    if is_whole(part) {
+        return Text::new(start, part.len());
+    }
     let span = read_text(part);
     if span.length == 0 {
         return Text::new(0, 0);

@@ -1,8 +1,11 @@
 // Which kind a line is, by its first bytes, and the name of a kind. A name is looked up as one number, its bytes being the digits.
 ghost use mathlib.Core.Path.{_≡_};
 ghost use Prim.Native.Nat.{_≤_};
+ghost use mathlib.Core.Bool.{_&&_};
+ghost use mathlib.Core.List.{[], _∷_};
+ghost use lib.Dec.{eqb};
 ghost use lib.ListN.{length, take};
-ghost use Rattle.kind.specs.Key.{keyOf, kindByKey};
+ghost use Rattle.kind.specs.Key.{keyOf, kindByKey, fourOf, twoOf};
 ghost use Rattle.kind.specs.Kind as specs;
 use line::options::Mode;
 
@@ -145,8 +148,8 @@ fn ends_model(mode: Mode, line: &[u8]) -> bool
     }
 }
 
-// The kind of a line, under atoms only or not, in a mode.
-pub fn kind_of(atoms: bool, mode: Mode, line: &[u8]) -> Kind
+// The kind of a line, under atoms only or not, in a mode, by its name among all.
+fn any_kind(atoms: bool, mode: Mode, line: &[u8]) -> Kind
     ensures { λ r. ⌜ r ≡ specs.kindOf atoms mode (now (line .entry)) ⌝ }
 {
     if 6 < line.len() {
@@ -159,4 +162,49 @@ pub fn kind_of(atoms: bool, mode: Mode, line: &[u8]) -> Kind
         return named_short(three(line));
     }
     Kind::Empty
+}
+
+// Four bytes as one number, the first in the lowest place, as a processor has them from memory at once; and two.
+fn four(a: u8, b: u8, c: u8, d: u8) -> u64
+    ensures { λ r. ⌜ r ≡ keyOf (d ∷ c ∷ b ∷ a ∷ []) ⌝ }
+{
+    ((d as u64 * 256 + c as u64) * 256 + b as u64) * 256 + a as u64
+}
+
+fn two(a: u8, b: u8) -> u64
+    ensures { λ r. ⌜ r ≡ keyOf (b ∷ a ∷ []) ⌝ }
+{
+    b as u64 * 256 + a as u64
+}
+
+// Whether a line begins with four bytes that make one number and two that make another.
+fn begins(line: &[u8], front: u64, behind: u64) -> bool
+    requires { ⌜ 6 ≤ length (now line) ⌝ }
+    ensures { λ r. ⌜ r ≡ (eqb (fourOf (now (line .entry))) front && eqb (twoOf (now (line .entry))) behind) ⌝ }
+{
+    if four(line[0], line[1], line[2], line[3]) != front {
+        return false;
+    }
+    two(line[4], line[5]) == behind
+}
+
+// The kind of a line, under atoms only or not, in a mode. Nearly every line of a file is an atom. Apart from the look among all names, which is
+// large, that one is told where the kind is asked for; and as what is found among all goes through a local, an atom's kind needs no place in memory.
+pub fn kind_of(atoms: bool, mode: Mode, line: &[u8]) -> Kind
+    ensures { λ r. ⌜ r ≡ specs.kindOf atoms mode (now (line .entry)) ⌝ }
+{
+    if line.len() < 7 {
+        let short = any_kind(atoms, mode, line);
+        return short;
+    }
+    // ATOM
+    if begins(line, 0x4d4f5441, 0x2020) {
+        return Kind::Atom;
+    }
+    // HETATM
+    if begins(line, 0x41544548, 0x4d54) {
+        return Kind::Hetatm;
+    }
+    let other = any_kind(atoms, mode, line);
+    other
 }

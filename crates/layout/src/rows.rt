@@ -1,6 +1,7 @@
 // How the rows of a record are put.
 ghost use mathlib.Core.Path.{_≡_};
 ghost use Rattle.layout.specs.Row as specs;
+ghost use Rattle.page.specs.Numerals.{decimal};
 ghost use Rattle.page.specs.Page.{page, put};
 use line::text::Character;
 use line::text::Field;
@@ -61,6 +62,20 @@ fn put_value(out: &mut [u8], at: usize, line: &[u8], value: Value) -> usize
     }
 }
 
+// A column, which mostly has two digits: these are put without looking for the first one.
+fn put_column(out: &mut [u8], at: usize, n: u64) -> usize
+    ensures { λ r. ⌜ page (now (out .exit)) r ≡ put (page (now (out .entry)) at) (decimal n) ⌝ }
+{
+    if n < 10 {
+        return put_unsigned(out, at, n);
+    }
+    if 99 < n {
+        return put_unsigned(out, at, n);
+    }
+    let unit = put_byte(out, at, 48 + (n / 10) as u8);
+    put_byte(out, unit, 48 + (n % 10) as u8)
+}
+
 // A row that isn't shown puts nothing.
 fn put_row(out: &mut [u8], at: usize, line: &[u8], row: Row) -> usize
     ensures { λ r. ⌜ page (now (out .exit)) r ≡ put (page (now (out .entry)) at) (specs.rowBytes (now (line .entry)) row) ⌝ }
@@ -68,7 +83,7 @@ fn put_row(out: &mut [u8], at: usize, line: &[u8], row: Row) -> usize
     let value = row.1;
     if is_present(value) {
         let column = put_byte(out, at, b'f');
-        let equals = put_unsigned(out, column, row.0 as u64);
+        let equals = put_column(out, column, row.0 as u64);
         let start = put_byte(out, equals, b'=');
         let end = put_value(out, start, line, value);
         return put_byte(out, end, b'\n');

@@ -1,6 +1,9 @@
 // What is asked of a line: `kind_line` its kind, `lex_line` its record and its faults, `read_line_as` the same as one of a kind. A line's refusals
 // come in document 01's order of testing.
 ghost use mathlib.Core.Path.{_≡_};
+ghost use Prim.Native.Nat.{_≤_};
+ghost use lib.Dec.{ltb};
+ghost use lib.ListN.{length};
 ghost use Rattle.lexer.specs.Refusals as specs;
 ghost use Rattle.lexer.specs.Lexed.{lexed, lexedAs, kindAsked};
 ghost use Rattle.lexer.specs.Steps as steps;
@@ -53,10 +56,47 @@ fn first_high(line: &[u8]) -> usize
     i
 }
 
+// Whether a line of 64 to 128 bytes has one of 128 or more: its first 64 and its last 64 are all of it. Here the loop's turns are known too, and
+// nothing is left over.
+fn has_high(line: &[u8]) -> bool
+    requires { ⌜ (64 ≤ length (now line)) × (length (now line) ≤ 128) ⌝ }
+    ensures { λ r. ⌜ r ≡ ltb (specs.plain (now (line .entry))) (length (now (line .entry))) ⌝ }
+{
+    let behind = line.len() - 64;
+    let mut found = false;
+    let mut i = 0;
+    while i < 64 {
+        if 127 < line[i] {
+            found = true;
+        }
+        if 127 < line[behind + i] {
+            found = true;
+        }
+        i += 1;
+    }
+    found
+}
+
+// How many bytes of such a line stand before the first of 128 or more.
+fn middle_plain(line: &[u8]) -> usize
+    requires { ⌜ (64 ≤ length (now line)) × (length (now line) ≤ 128) ⌝ }
+    ensures { λ r. ⌜ r ≡ specs.plain (now (line .entry)) ⌝ }
+{
+    if has_high(line) {
+        return first_high(line);
+    }
+    line.len()
+}
+
 // How many bytes stand before the first of 128 or more. Hardly a line has one, so it is looked for only where one is.
 fn plain_length(line: &[u8]) -> usize
     ensures { λ r. ⌜ r ≡ specs.plain (now (line .entry)) ⌝ }
 {
+    if 64 <= line.len() {
+        if line.len() <= 128 {
+            return middle_plain(line);
+        }
+    }
     if highest(line) < 128 {
         return line.len();
     }

@@ -4,3 +4,4 @@ pub mod decimal;
 pub mod trim;
 pub mod whole;
 pub mod wide;
+pub mod word;

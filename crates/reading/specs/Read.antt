@@ -6,15 +6,20 @@ use mathlib.Core.Bool.{Bool, cond, _||_}
 use mathlib.Core.List.{List, [], _∷_}
 use lib.ListN.{length}
 use lib.Dec.{ltb, eqb}
+use Rattle.atom.specs.Atom.{gotAtom}
+use Rattle.atom.specs.declared.read.GotAtom.{GotAtom}
 use Rattle.kind.specs.Kind.{Named, names}
 use Rattle.kind.specs.declared.Kind.{Kind}
-use Rattle.kind.specs.declared.Kind.the-variants.{Scale}
+use Rattle.kind.specs.declared.Kind.the-variants.{Atom, Hetatm, Scale}
 use Rattle.lexer.specs.Lexed.{lexed, lexedAs}
 use Rattle.lexer.specs.Refusals.{Input}
+use Rattle.lexer.specs.Steps.{answerOf}
 use Rattle.lexitem.specs.Fault.{told}
 use Rattle.lexitem.specs.declared.answer.Answer.{Answer}
 use Rattle.lexitem.specs.declared.answer.Outcome.{Outcome}
 use Rattle.lexitem.specs.declared.answer.Outcome.the-variants.{Accepted, Refused}
+use Rattle.lexitem.specs.declared.item.LexItem.the-variants as item
+use Rattle.line.specs.Given.{taking}
 use Rattle.wording.specs.Fields.{fieldWords, over}
 use Rattle.reading.specs.Faults.{faultsWords}
 use Rattle.packing.specs.Packed.{packedAs}
@@ -56,3 +61,15 @@ pub record Reads (l : List ℕ) (a : Answer) (old other : List ℕ) (r : ℕ) (n
   pub answer : r ≡ readWord (a .outcome) (length old) (length other)
   pub fields : new ≡ fieldsLeft (a .outcome) l old other
   pub faults : others ≡ faultsLeft a (a .outcome) old other
+
+-- ---- the words of a helper
+-- an atom's kind
+abbrev pub atomKind : Bool → Kind
+atomKind hetero = cond hetero Hetatm Atom
+
+-- the answer with what was read of an atom, and the one of an atom's line
+abbrev pub answerFrom : Bool → ℕ → GotAtom → Answer
+answerFrom hetero number got = answerOf number (atomKind hetero) (record { value = item.Atom (got .value); faults = got .faults })
+
+abbrev pub atomAnswer : Bool → Bool → ℕ → List ℕ → Answer
+atomAnswer hetero exponents number l = answerFrom hetero number (gotAtom hetero (taking exponents l))

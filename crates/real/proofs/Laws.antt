@@ -1,9 +1,5 @@
--- The laws of the words in specs/. Word, Shape and Fixed are of texts, and prove the quick reading. Apart to Powers are of doubles, and end in
--- the distance and in what a double tells. Real is what callers and readers cite. Nearest to WideReal are of exponents, and
--- WideReal is what callers and readers cite of them.
-pub mod Word
-pub mod Shape
-pub mod Fixed
+-- The laws of the words in specs/. Apart to Powers are of doubles, and end in the distance and in what a double tells. Real is what callers and
+-- readers cite. Nearest to WideReal are of exponents, and WideReal is what callers and readers cite of them.
 pub mod Apart
 pub mod Halves
 pub mod Kept

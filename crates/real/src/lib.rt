@@ -5,17 +5,19 @@ ghost use Prim.Native.Nat.{_≤_, _<_, _^_};
 ghost use lib.IntN.{pos, natAbs};
 ghost use lib.Ieee.{binary64, ofInt};
 ghost use Rattle.real.specs.Double.{doubleOf};
-ghost use Rattle.real.specs.Fixed.{Limits, SaysReal};
 ghost use Rattle.real.specs.Real as specs;
 
-mod fixed;
 pub mod wide;
 
-use crate::fixed::read_fixed;
 use number::decimal::Decimal;
 use number::decimal::read_decimal;
 use number::whole::Signed;
 use number::whole::read_signed;
+use number::word::MINUS;
+use number::word::NONE;
+use number::word::eight;
+use number::word::read_word;
+use number::word::six;
 
 // A double, and how many digits stood behind the point. An integer has none there.
 pub enum Real {
@@ -74,7 +76,7 @@ fn double(minus: bool, digits: u64, places: usize) -> f64
 
 // The double of a plain decimal, and its places.
 fn real_from(decimal: Decimal) -> Real
-    requires { ⌜ Limits decimal ⌝ }
+    requires { ⌜ specs.Limits decimal ⌝ }
     ensures { λ r. ⌜ r ≡ specs.realFrom decimal ⌝ }
 {
     match decimal {
@@ -87,11 +89,39 @@ fn real_from(decimal: Decimal) -> Real
     }
 }
 
+// The double of what was read of a word with three digits behind the point, if anything was.
+pub fn thousandths(code: u64) -> Real
+    ensures { λ r. ⌜ r ≡ specs.thousandthsOf code ⌝ }
+{
+    if code == NONE {
+        return Real::NotR;
+    }
+    let digits = code % 65536 * 1000 + code / 0x1_0000_0000 % 65536;
+    Real::R(double(MINUS <= code, digits, 3), 3)
+}
+
+// The same with two digits, behind which a zero stood in the word.
+pub fn hundredths(code: u64) -> Real
+    ensures { λ r. ⌜ r ≡ specs.hundredthsOf code ⌝ }
+{
+    if code == NONE {
+        return Real::NotR;
+    }
+    let digits = code % 65536 * 100 + code / 0x1_0000_0000 % 65536 / 10;
+    Real::R(double(MINUS <= code, digits, 2), 2)
+}
+
 // The double of a text whose point stands at a known place. Of any other text nothing is said.
 fn quick_real(text: &[u8]) -> Real
-    ensures { λ r. ⌜ SaysReal (now (text .entry)) r ⌝ }
+    ensures { λ r. ⌜ specs.SaysReal (now (text .entry)) r ⌝ }
 {
-    real_from(read_fixed(text))
+    if text.len() == 8 {
+        return thousandths(read_word(eight(text)));
+    }
+    if text.len() == 6 {
+        return hundredths(read_word(six(text)));
+    }
+    Real::NotR
 }
 
 pub fn read_real(text: &[u8]) -> Real

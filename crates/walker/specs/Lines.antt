@@ -1,6 +1,7 @@
 -- "A line ends at LF, a CR just before LF is dropped, and an empty last piece is no line." LF is byte 10 and CR byte 13. A last piece that
 -- isn't empty is a line, and keeps a CR at its end.
-use Prim.Native.Nat.{ℕ, suc, _+_, _-_, _^_, min}
+use Prim.Native.Nat.{ℕ, suc, _+_, _-_, _^_, _<_, min}
+use mathlib.Core.Path.{_≡_}
 use mathlib.Core.Bool.{Bool, true, false, cond, _&&_, _||_}
 use mathlib.Core.List.{List, [], _∷_}
 use lib.ListN.{length, take, drop}
@@ -71,6 +72,11 @@ beforeLf (b ∷ t) = cond (eqb b 10) 0 (suc (beforeLf t))
 unfoldable pub hasLf : Bool → List ℕ → Bool
 hasLf found [] = found
 hasLf found (b ∷ t) = hasLf (cond (eqb b 10) true found) t
+
+-- what a look at a line of 80 bytes tells, if it tells something
+abbrev pub FullAt : List ℕ → ℕ → Bool → Type 0
+FullAt f at true = (at + 80 < length f) × (beforeLf (drop at f) ≡ 80)
+FullAt f at false = Unit {0}
 
 -- ---- its number
 -- the number behind a line's, which stops at the last that there is

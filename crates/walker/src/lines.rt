@@ -3,7 +3,7 @@ ghost use mathlib.Core.Bool.{false};
 ghost use mathlib.Core.Path.{_≡_};
 ghost use Prim.Native.Nat.{_+_, _<_};
 ghost use lib.ListN.{length, drop};
-ghost use Rattle.walker.specs.Lines.{beforeLf, hasLf, lineLength, stepAt, partOf};
+ghost use Rattle.walker.specs.Lines.{beforeLf, hasLf, FullAt, lineLength, stepAt, partOf};
 
 // What stands at an offset of a file: a line, from `start` up to `end`, with the offset of what follows it; or the end.
 pub enum Step {
@@ -47,10 +47,36 @@ fn skip_blocks(file: &[u8], at: usize) -> usize
     i
 }
 
+// Whether the line at an offset has 80 bytes, as most lines have. Its LF is looked at first, so that other lines lose little by it; and as the
+// blocks before it have known sizes, they are compared without a loop.
+fn is_full(file: &[u8], at: usize) -> bool
+    ensures { λ r. ⌜ FullAt (now (file .entry)) at r ⌝ }
+{
+    if file.len() <= at {
+        return false;
+    }
+    if file.len() - at <= 80 {
+        return false;
+    }
+    if file[at + 80] != 10 {
+        return false;
+    }
+    if has_lf(&file[at..at + 64]) {
+        return false;
+    }
+    if has_lf(&file[at + 64..at + 80]) {
+        return false;
+    }
+    true
+}
+
 // Where the first LF stands from an offset on, or the end of the file if there is none.
 fn find_lf(file: &[u8], at: usize) -> usize
     ensures { λ r. ⌜ r ≡ at + beforeLf (drop at (now (file .entry))) ⌝ }
 {
+    if is_full(file, at) {
+        return at + 80;
+    }
     let mut i = skip_blocks(file, at);
     while i < file.len() {
         if file[i] == 10 {

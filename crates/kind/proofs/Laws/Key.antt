@@ -3,6 +3,7 @@
 --     Bytes, isBytes    the numbers of a line are bytes, and a test of that for a text
 --     key-lt            the number of n bytes is below 256 ^ n
 --     bytes-front       the front of a line passes the test
+--     first-byte        so its first is a byte, and the rest are
 --     same-key          texts of one length are the same when their numbers are
 --     same-length       texts of other lengths aren't the same
 -- Assumes nothing.
@@ -51,7 +52,7 @@ bytes-front (suc n) [] f = tt
 bytes-front (suc n) (b ∷ t) f =
     and-i (ltb b 256) (isBytes (take n t)) (lt→ltb b 256 (omega (arith, f 0))) (bytes-front n t (λ i. f (suc i)))
 
-first-byte : (b : ℕ) (t : List ℕ) → T (isBytes (b ∷ t)) → (b < 256) × T (isBytes t)
+pub first-byte : (b : ℕ) (t : List ℕ) → T (isBytes (b ∷ t)) → (b < 256) × T (isBytes t)
 first-byte b t h = (ltb→lt b 256 (and-l (ltb b 256) (isBytes t) h), and-r (ltb b 256) (isBytes t) h)
 
 -- numbers are equal when their last digits are, and what stands before them

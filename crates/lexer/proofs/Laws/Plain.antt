@@ -1,6 +1,7 @@
 -- Laws of the bytes before the first of 128 or more, one byte further, and of the highest byte.
 --     plain-on, plain-stop         one byte further, and where the bytes stop
 --     plain-le                     no more than the list has
+--     plain-high, plain-low        a byte of 128 or more: fewer than that; none such: all of them
 --     highest-more, highest-same   one byte further, a higher one and none such
 --     plain-whole                  no byte of 128 or more: all of them
 -- Assumes nothing.
@@ -34,6 +35,21 @@ plain-le (b ∷ t) = go (ltb b 128) (plain-le t)
     go : (x : Bool) → plain t ≤ length t → cond x (suc (plain t)) 0 ≤ suc (length t)
     go true h = omega arith
     go false h = omega arith
+
+pub plain-high : (t : List ℕ) (p : ℕ) → p < length t → 127 < getD t p 0 → plain t < length t
+unfolding plain
+plain-high [] p h e = absurd (omega arith)
+plain-high (b ∷ t) ℕ.zero h e = rw (le-ltb b 128 e) (omega arith)
+plain-high (b ∷ t) (suc p) h e = go (ltb b 128) (plain-high t p (omega arith) e)
+  where
+    go : (x : Bool) → plain t < length t → cond x (suc (plain t)) 0 < suc (length t)
+    go true h = omega arith
+    go false h = omega arith
+
+pub plain-low : (t : List ℕ) → ((p : ℕ) → p < length t → getD t p 0 ≤ 127) → plain t ≡ length t
+unfolding plain
+plain-low [] h = refl
+plain-low (b ∷ t) h = rw (lt-ltb b 128 (omega (arith, h 0 (omega arith))), plain-low t (λ p i. h (suc p) (omega arith))) refl
 
 -- a byte and then the rest, by the test of the byte
 highest-cons : (b : ℕ) (t : List ℕ) (m : ℕ) (x : Bool) → ltb m b ≡ x → highest m (b ∷ t) ≡ highest (cond x b m) t

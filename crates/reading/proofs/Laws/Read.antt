@@ -5,6 +5,8 @@
 --     few-faults       its faults are told as they are counted, and are at most fifteen
 --     small            a refusal's number and place have sixteen bits, and its length has thirty-two
 --     reads-refused, reads-few, reads-none, reads-all     what is left by what is answered
+--     atom-answered    a line that is told to be an atom is answered as one
+--     atom-from        so with what was read of it
 --     reads-one        two answers that the contract allows coincide, with every lent word
 -- Assumes nothing.
 use Prim.Native.Nat.{ℕ, suc, _-_, _^_, _≤_, _<_}
@@ -12,10 +14,14 @@ use mathlib.Core.Path.{_≡_, refl, sym, ap, _∙_}
 use mathlib.Core.Bool.{Bool, true, false, cond, not, _&&_, _||_}
 use mathlib.Core.List.{List, [], _∷_, map}
 use native.Mathlib.Omega.{arith}
-use borrow.Author.Tests.{ltb-false, le-ltb}
+use borrow.Author.Tests.{ltb-false, le-ltb, eq-eqb, eqb-false}
 use lib.ListN.{length, getD, set, drop}
 use lib.Dec.{ltb, eqb}
-use Rattle.kind.specs.Kind.{Named, names, numberOf}
+use Rattle.answers.specs.Ask.{kindWord}
+use Rattle.atom.specs.Atom.{gotAtom}
+use Rattle.atom.specs.declared.read.GotAtom.{GotAtom}
+use Rattle.kind.specs.Kind.{Named, names, numberOf, noKind}
+use Rattle.kind.proofs.Laws.Number.{number-tells}
 use Rattle.kind.specs.declared.Kind.{Kind}
 use Rattle.kind.specs.declared.Kind.the-variants.{Empty, Header, Remark, Atom, Hetatm, Anisou, Cryst1, Scale, Origx, Mtrix, Model, Master, Dbref, Dbref1, Dbref2, Seqres, Seqadv, Modres, Ssbond, Endmdl, Ter, End}
 use Rattle.lexitem.specs.Answer.{refusal}
@@ -30,17 +36,20 @@ use Rattle.lexitem.specs.declared.answer.Refusal.{Refusal}
 use Rattle.lexitem.specs.declared.item.LexItem.{LexItem}
 use Rattle.lexitem.proofs.Laws.Fault.{stamped-length}
 use Rattle.lexitem.proofs.Laws.Few.{faults-fifteen}
-use Rattle.lexer.specs.Lexed.{refused, accepted, firstOf, lexed, lexedAs}
-use Rattle.lexer.specs.Refusals.{Input, Asking, kind, given, faults, plain, excess, missing, tests, headerCut, remarkLong, another, reads}
+use Rattle.lexer.specs.Lexed.{refused, accepted, firstOf, lexed, lexedAs, kindAsked}
+use Rattle.lexer.specs.declared.Asked.the-variants as asked
+use Rattle.lexer.specs.Refusals.{Input, Asking, kind, given, faults, plain, excess, missing, tests, headerCut, remarkLong, another, reads, lineTests}
 use Rattle.lexer.specs.Refusals.Asking.{itsRecord, recordAs}
 use Rattle.lexer.specs.Steps.{firstRefusal, entryTests, readAs}
 use Rattle.lexer.proofs.Laws.Accepted.{accepted-told, accepted-count}
 use Rattle.lexer.proofs.Laws.Plain.{plain-le}
-use Rattle.lexer.proofs.Laws.Tests.{lexed-split, as-split}
+use Rattle.lexer.proofs.Laws.Tests.{lexed-split, as-split, asked-split}
+use Rattle.line.specs.Given.{taking}
+use Rattle.line.specs.declared.options.Options.{Options}
 use Rattle.packing.proofs.Laws.Packed as packing
 use Rattle.wording.specs.Fields.{fieldWords, over, Fills}
 use Rattle.reading.specs.Faults.{faultsWords}
-use Rattle.reading.specs.Read.{kindAt, kindNumbered, answered, tooFew, roomWord, readWord, fieldsLeft, faultsLeft, Reads}
+use Rattle.reading.specs.Read.{kindAt, kindNumbered, answered, tooFew, roomWord, readWord, fieldsLeft, faultsLeft, Reads, atomKind, answerFrom, atomAnswer}
 
 -- ---- the kind that is handed in
 within : (ns : List Named) (n : ℕ) (d : Kind) → n < length ns → getD (map (λ (m : Named). m .kind) ns) n d ≡ kindAt n ns
@@ -213,6 +222,38 @@ module _ (n : ℕ) (i : Input) (a : Answer) (l old other : List ℕ) (e : a ≡ 
 
       pub reads-none : a .faults .count ≡ 0 → length (told (a .faults)) ≡ a .faults .count → Reads l (answered n i) old other 0 new (set other 0 0)
       reads-none none many = reads-all (set other 0 0) (none-put (told (a .faults)) other (many ∙ none) (omega arith))
+
+-- ---- an atom
+module _ (i : Input) where
+  by-atom : (hetero : Bool) → readAs (i .number) (atomKind hetero) (given i) ≡ atomAnswer hetero (i .options .exponents) (i .number) (i .line)
+  unfolding readAs
+  by-atom true = refl
+  by-atom false = refl
+
+  few-kinds : (hetero : Bool) → (numberOf (atomKind hetero) < noKind) × (numberOf (atomKind hetero) ≤ 4)
+  few-kinds true = (omega arith, omega arith)
+  few-kinds false = (omega arith, omega arith)
+
+  pub atom-answered : (w : ℕ) (hetero : Bool) → length (i .remarks) ≡ 1000 → w ≡ kindWord (kindAsked (i .line) (i .options)) → w ≡ numberOf (atomKind hetero)
+      → answered (2 ^ 32 - 1) i ≡ atomAnswer hetero (i .options .exponents) (i .number) (i .line)
+  unfolding answered
+  atom-answered w hetero table word is = lexed-split i ∙ rw (eq-eqb (length (i .remarks)) 1000 table) (go (eqb (first .number) 0) refl told)
+    where
+      first : Refusal
+      first = firstRefusal (lineTests (i .line))
+
+      told : kindWord (cond (eqb (first .number) 0) (asked.Is (kind i)) (asked.Refused first)) ≡ numberOf (atomKind hetero)
+      told = ap kindWord (sym (asked-split (i .line) (i .options))) ∙ sym word ∙ is
+
+      go : (b : Bool) → eqb (first .number) 0 ≡ b → kindWord (cond b (asked.Is (kind i)) (asked.Refused first)) ≡ numberOf (atomKind hetero)
+          → cond b (readAs (i .number) (kind i) (given i)) (refused i first) ≡ atomAnswer hetero (i .options .exponents) (i .number) (i .line)
+      go true e k = rw (number-tells (kind i) (atomKind hetero) (few-kinds hetero .0) k) (by-atom hetero)
+      go false e k = absurd (let few = few-kinds hetero .1 in omega (arith, eqb-false (first .number) 0 e))
+
+  pub atom-from : (n : ℕ) (hetero : Bool) (got : GotAtom) (options : Options) → got ≡ gotAtom hetero (taking (options .exponents) (i .line)) → options ≡ i .options
+      → answered n i ≡ atomAnswer hetero (i .options .exponents) (i .number) (i .line) → answerFrom hetero (i .number) got ≡ answered n i
+  atom-from n hetero got options is o so =
+      ap (answerFrom hetero (i .number)) (is ∙ ap (λ (w : Options). gotAtom hetero (taking (w .exponents) (i .line))) o) ∙ sym so
 
 pub reads-one : {l old other new others new′ others′ : List ℕ} {a : Answer} {r s : ℕ} → Reads l a old other r new others
     → Reads l a old other s new′ others′ → (r ≡ s) × (new ≡ new′) × (others ≡ others′)

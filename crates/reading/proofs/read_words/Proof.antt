@@ -1,40 +1,14 @@
--- `reading::read_words` meets its contract, by the outcome of the line, by the rooms and by whether there is a fault.
+-- `reading::read_words` meets its contract: an atom is answered as one, and any other line as it is.
 -- Assumes nothing.
-use mathlib.Core.Path.{_∙_}
-use native.Mathlib.Omega.{arith}
-use lib.ListN.{length}
-use Rattle.packing.proofs.Laws.Packed.{packed-small}
-use Rattle.reading.proofs.Laws.Read.{small, few-faults, room-enough, reads-refused, reads-few, reads-none, reads-all}
+use mathlib.Core.Bool.{true, false}
+use Rattle.packing.specs.Options.{inputOf}
+use Rattle.reading.proofs.Laws.Read.{atom-answered}
 use borrow.Author.Needs.{needs}
 use Rattle.reading.proofs.read_words.Statement.{statement}
 use Rattle.reading.proofs.read_words.Tie as tie
 
-answer-of-requires : tie.Need-answer-of-requires
-answer-of-requires c κs = search needs
-
-enum-known-outcome : tie.Need-enum-known-outcome
-enum-known-outcome c = search needs
-
-packed-requires : tie.Need-packed-requires
-packed-requires c κs = search needs
-
-enum-known-outcome-2 : tie.Need-enum-known-outcome-2
-enum-known-outcome-2 c = search needs
-
-room-refusal-requires : tie.Need-room-refusal-requires
-room-refusal-requires c κs = search needs
-
-returns : tie.Need-returns
-returns c = reads-few _ _ _ _ _ _ (c .before .before .before .before .before .answer-of .ensures) _ (c .before .before .before .outcome2 .given .1) _ (c .before .room-refusal .ensures) (c .if1 .taken)
-
-put-fields-requires : tie.Need-put-fields-requires
-put-fields-requires c κs = search needs
-
-slice-write-faults : tie.Need-slice-write-faults
-slice-write-faults c =
-    let a = c .before .before .before .before .before .before .before .before .before .before .before .before .before .before .before .before .args in
-    let room = room-enough (length (a .fields .now)) (length (a .faults .now)) _ (c .before .before .before .before .before .before .before .room-refusal .ensures) (c .before .before .before .before .before .before .if1 .left) in
-    omega (arith, room .1)
+read-any-requires : tie.Need-read-any-requires
+read-any-requires c κs = search needs
 
 same-length : tie.Need-same-length
 same-length c = search needs
@@ -42,26 +16,11 @@ same-length c = search needs
 same-length-2 : tie.Need-same-length-2
 same-length-2 c = search needs
 
-returns-2 : tie.Need-returns-2
-returns-2 c =
-    let a = c .before .before .before .before .before .before .before .before .before .before .before .before .before .before .before .before .args in
-    let room = room-enough (length (a .fields .now)) (length (a .faults .now)) _ (c .before .before .before .before .before .before .before .room-refusal .ensures) (c .before .before .before .before .before .before .if1 .left) in
-    let said = c .before .before .before .before .before .before .before .before .before .before .before .answer-of .ensures in
-    let accepted = c .before .before .before .before .before .before .before .before .before .outcome2 .given .1 in
-    reads-none _ _ _ _ _ _ said _ accepted _ (room .0) (room .1) (c .before .before .before .before .put-fields .ensures) (c .if2 .taken) (few-faults _ _ _ _ said accepted .1)
+returns : tie.Need-returns
+returns c = search needs
 
-put-faults-requires : tie.Need-put-faults-requires
-put-faults-requires c κs =
-    let a = c .before .before .before .before .before .before .before .before .before .before .before .before .before .before .before .before .before .before .args in
-    let room = room-enough (length (a .fields .now)) (length (a .faults .now)) _ (c .before .before .before .before .before .before .before .before .before .room-refusal .ensures) (c .before .before .before .before .before .before .before .before .if1 .left) in
-    let few = few-faults _ _ _ _ (c .before .before .before .before .before .before .before .before .before .before .before .before .before .answer-of .ensures) (c .before .before .before .before .before .before .before .before .before .before .before .outcome2 .given .1) in
-    (room .1, few .0, few .1)
-
-returns-3 : tie.Need-returns-3
-returns-3 c =
-    let said = c .before .before .before .before .answer-of .ensures in
-    let refused = c .before .before .outcome .given .1 in
-    reads-refused _ _ _ _ _ _ said _ _ refused (c .packed .ensures ∙ packed-small _ (small _ _ _ _ said refused))
+read-any-requires-2 : tie.Need-read-any-requires-2
+read-any-requires-2 c κs = search needs
 
 same-length-3 : tie.Need-same-length-3
 same-length-3 c = search needs
@@ -69,31 +28,74 @@ same-length-3 c = search needs
 same-length-4 : tie.Need-same-length-4
 same-length-4 c = search needs
 
+returns-2 : tie.Need-returns-2
+returns-2 c = search needs
+
+kind-word-requires : tie.Need-kind-word-requires
+kind-word-requires c κs = search needs
+
+read-atom-requires : tie.Need-read-atom-requires
+read-atom-requires c κs =
+    let a = c .before .before .before .before .before .before .before .before .before .before .args in
+    atom-answered (inputOf (a .line .now) (a .number) (a .options) (a .remarks .now)) _ false (c .before .before .before .before .if2 .left) (c .before .before .before .kind-word .ensures) (c .before .before .if3 .taken)
+
+same-length-5 : tie.Need-same-length-5
+same-length-5 c = search needs
+
+same-length-6 : tie.Need-same-length-6
+same-length-6 c = search needs
+
+returns-3 : tie.Need-returns-3
+returns-3 c = rw (c .before .before .before .before .before .before .before .before .before .before .if1 .left) (c .before .before .before .before .read-atom .ensures)
+
+read-atom-requires-2 : tie.Need-read-atom-requires-2
+read-atom-requires-2 c κs =
+    let a = c .before .before .before .before .before .before .before .before .before .before .before .args in
+    atom-answered (inputOf (a .line .now) (a .number) (a .options) (a .remarks .now)) _ true (c .before .before .before .before .before .if2 .left) (c .before .before .before .before .kind-word .ensures) (c .before .before .if4 .taken)
+
+same-length-7 : tie.Need-same-length-7
+same-length-7 c = search needs
+
+same-length-8 : tie.Need-same-length-8
+same-length-8 c = search needs
+
 returns-4 : tie.Need-returns-4
-returns-4 c =
-    let a = c .before .before .before .before .before .before .before .before .before .before .before .before .before .before .before .before .before .before .before .before .before .args in
-    let room = room-enough (length (a .fields .now)) (length (a .faults .now)) _ (c .before .before .before .before .before .before .before .before .before .before .before .before .room-refusal .ensures) (c .before .before .before .before .before .before .before .before .before .before .before .if1 .left) in
-    let said = c .before .before .before .before .before .before .before .before .before .before .before .before .before .before .before .before .answer-of .ensures in
-    let accepted = c .before .before .before .before .before .before .before .before .before .before .before .before .before .before .outcome2 .given .1 in
-    reads-all _ _ _ _ _ _ said _ accepted _ (room .0) (room .1) (c .before .before .before .before .before .before .before .before .before .put-fields .ensures) _ (c .before .before .put-faults .ensures)
+returns-4 c = rw (c .before .before .before .before .before .before .before .before .before .before .before .if1 .left) (c .before .before .before .before .read-atom2 .ensures)
+
+read-any-requires-3 : tie.Need-read-any-requires-3
+read-any-requires-3 c κs = search needs
+
+same-length-9 : tie.Need-same-length-9
+same-length-9 c = search needs
+
+same-length-10 : tie.Need-same-length-10
+same-length-10 c = search needs
+
+returns-5 : tie.Need-returns-5
+returns-5 c = search needs
 
 pub read-words-spec : {M : Type 1} → statement M
 read-words-spec =
     tie.close
     (tie.spec
-    answer-of-requires
-    enum-known-outcome
-    packed-requires
-    enum-known-outcome-2
-    room-refusal-requires
-    returns
-    put-fields-requires
-    slice-write-faults
+    read-any-requires
     same-length
     same-length-2
-    returns-2
-    put-faults-requires
-    returns-3
+    returns
+    read-any-requires-2
     same-length-3
     same-length-4
-    returns-4)
+    returns-2
+    kind-word-requires
+    read-atom-requires
+    same-length-5
+    same-length-6
+    returns-3
+    read-atom-requires-2
+    same-length-7
+    same-length-8
+    returns-4
+    read-any-requires-3
+    same-length-9
+    same-length-10
+    returns-5)

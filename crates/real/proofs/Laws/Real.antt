@@ -3,28 +3,28 @@
 --     decimal-near, real-near              the double is near the written number, and its places are the number's
 --     real-finite                          it is finite and no NaN
 --     reals-tell                           two texts with the same double say the same number, with the same sign
---     says-limits, says-real               what was read as the text says it is within the limits, and its double is the text's
---     said-decimal                         what the text says was read so
+--     decimal-within                       what a text says is within the limits
+--     eight-real, six-real                 what is read of a text as a word, if anything is, is what the text says
 --     ten-thousandths-near                 an integer's double over 10000.0, in up to seven columns, is near its number
 --     ten-thousandths-tell                 two integers of up to ten digits with the same double are the same
 -- Assumes nothing.
-use Prim.Native.Nat.{ℕ, _*_, _^_, _≤_, _<_}
+use Prim.Native.Nat.{ℕ, _+_, _*_, _/_, _^_, _≤_, _<_}
 use mathlib.Core.Path.{_≡_, refl, sym, ap}
-use mathlib.Core.Bool.{Bool, not}
+use mathlib.Core.Bool.{Bool, true, false, cond, not}
 use mathlib.Core.List.{List}
 use native.Mathlib.Omega.{arith}
 use borrow.Author.Tests.{le-leb}
 use lib.ListN.{length}
-use lib.Dec.{T}
+use lib.Dec.{T, eqb}
 use lib.IntN.{ℤ, pos, negsuc, natAbs}
 use lib.Ieee.{Float, isNan}
 use lib.Ieee.Scale.{finite}
 use Rattle.number.specs.Whole.{signedOf}
 use Rattle.number.specs.Decimal.{decimalOf}
+use Rattle.number.specs.Word.{none, codeOf, minusIn, frontIn, behindIn, eightOf, sixOf}
 use Rattle.real.specs.Double.{doubleOf}
 use Rattle.real.specs.Near.{Near}
-use Rattle.real.specs.Real.{realFrom, realOf, tenThousandth, tenThousandthsOf}
-use Rattle.real.specs.Fixed.{SaysDecimal, SaysReal, Limits}
+use Rattle.real.specs.Real.{realFrom, realOf, tenThousandth, tenThousandthsOf, Limits, SaysReal, thousandthsOf, hundredthsOf}
 use Rattle.real.specs.Sign.{below}
 use Rattle.number.specs.declared.whole.Signed.the-variants.{I}
 use Rattle.number.specs.declared.decimal.Decimal.{Decimal}
@@ -33,6 +33,7 @@ use Rattle.real.specs.declared.Real.the-variants.{R, NotR}
 use Rattle.real.proofs.Laws.Quotient.{integer-near, double-near}
 use Rattle.real.proofs.Laws.Tells.{near-tells, near-finite, near-number}
 use Rattle.number.proofs.Laws.Width.{signed-within, decimal-limits}
+use Rattle.number.proofs.Laws.Fixed.{eight-said, six-said}
 
 -- ---- plain decimals
 pub real-is : (t : List ℕ) {s : Bool} {m p : ℕ} → decimalOf t ≡ Plain s m p → realOf t ≡ R (doubleOf s m p) p
@@ -70,18 +71,28 @@ reals-tell t u {s} {r} {m} {n} {p} {q} d e same =
     let other = rw (sym same) at (decimal-near u e) in
     near-tells s r m n p q (doubleOf s m p) (decimal-near t d) other (decimal-limits t d .0) (decimal-limits u e .0)
 
--- ---- what was read, if anything was
-pub says-limits : (t : List ℕ) (d : Decimal) → SaysDecimal t d → Limits d
-says-limits t (Plain s m p) e = decimal-limits t e
-says-limits t NotPlain e = tt
+-- ---- what was read
+pub decimal-within : (t : List ℕ) (d : Decimal) → d ≡ decimalOf t → Limits d
+decimal-within t (Plain s m p) e = decimal-limits t (sym e)
+decimal-within t NotPlain e = tt
 
-pub says-real : (t : List ℕ) (d : Decimal) → SaysDecimal t d → SaysReal t (realFrom d)
-says-real t (Plain s m p) e = real-is t e
-says-real t NotPlain e = tt
+pub eight-real : (t : List ℕ) → SaysReal t (thousandthsOf (codeOf (eightOf t)))
+unfolding thousandthsOf
+eight-real t = go (eqb (codeOf (eightOf t)) none) refl
+  where
+    go : (b : Bool) → let c = codeOf (eightOf t) in eqb c none ≡ b
+        → SaysReal t (cond b NotR (R (doubleOf (minusIn c) (frontIn c * 1000 + behindIn c) 3) 3))
+    go true e = tt
+    go false e = real-is t (eight-said t e)
 
-pub said-decimal : (t : List ℕ) (d : Decimal) → d ≡ decimalOf t → SaysDecimal t d
-said-decimal t (Plain s m p) e = sym e
-said-decimal t NotPlain e = tt
+pub six-real : (t : List ℕ) → SaysReal t (hundredthsOf (codeOf (sixOf t)))
+unfolding hundredthsOf
+six-real t = go (eqb (codeOf (sixOf t)) none) refl
+  where
+    go : (b : Bool) → let c = codeOf (sixOf t) in eqb c none ≡ b
+        → SaysReal t (cond b NotR (R (doubleOf (minusIn c) (frontIn c * 100 + behindIn c / 10) 2) 2))
+    go true e = tt
+    go false e = real-is t (six-said t e)
 
 -- ---- ten-thousandths
 pub ten-thousandths-near : (t : List ℕ) {z : ℤ} → signedOf t ≡ I z → length t ≤ 7

@@ -3,7 +3,7 @@
 -- Assumes nothing.
 use mathlib.Core.Path.{sym, ap, _∙_}
 use Rattle.real.specs.Real.{realOf, realFrom}
-use Rattle.real.proofs.Laws.Real.{says-limits, said-decimal}
+use Rattle.real.proofs.Laws.Real.{decimal-within}
 use borrow.Author.Needs.{needs}
 use Rattle.real.proofs.read_real.Statement.{statement}
 use Rattle.real.proofs.read_real.Tie as tie
@@ -22,9 +22,7 @@ read-decimal-requires c κs = search needs
 
 real-from-requires : tie.Need-real-from-requires
 real-from-requires c κs =
-    let t = c .before .before .before .before .before .args .text .now in
-    let d = c .read-decimal .result in
-    says-limits t d (said-decimal t d (c .read-decimal .ensures))
+    decimal-within (c .before .before .before .before .before .args .text .now) (c .read-decimal .result) (c .read-decimal .ensures)
 
 returns : tie.Need-returns
 returns c = sym (rw (c .before .value .given .1) at (c .before .before .before .quick-real .ensures))

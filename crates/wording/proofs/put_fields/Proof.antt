@@ -1,59 +1,38 @@
--- `wording::put_fields` meets its contract: the rows' words are put behind two others, and the place behind them says how many there are.
+-- `wording::put_fields` meets its contract, an arm for an atom and one for any record.
 -- Assumes nothing.
-use native.Mathlib.Omega.{arith}
-use lib.ListN.{length-set}
-use Rattle.wording.specs.Fields.{fieldWords}
-use Rattle.wording.proofs.Laws.Words.{rows-most, front-two, fills, fills-few}
 use borrow.Author.Needs.{needs}
 use Rattle.wording.proofs.put_fields.Statement.{statement}
 use Rattle.wording.proofs.put_fields.Tie as tie
 
-returns : tie.Need-returns
-returns c = fills-few _ _ (c .if1 .taken)
+enum-known-item : tie.Need-enum-known-item
+enum-known-item c = search needs
 
-kind-requires : tie.Need-kind-requires
-kind-requires c κs = search needs
+put-atom-fields-requires : tie.Need-put-atom-fields-requires
+put-atom-fields-requires c κs = search needs
 
-number-of-requires : tie.Need-number-of-requires
-number-of-requires c κs = search needs
-
-put-present-requires : tie.Need-put-present-requires
-put-present-requires c κs = search needs
-
-slice-write-out : tie.Need-slice-write-out
-slice-write-out c = search needs
-
-sub-out : tie.Need-sub-out
-sub-out c = search needs
-
-slice-write-out-2 : tie.Need-slice-write-out-2
-slice-write-out-2 c =
-    let room = c .before .before .before .before .before .before .if1 .left in
-    let same = c .before .before .put-present .kept .0 in
-    simp length-set (omega arith)
+put-record-requires : tie.Need-put-record-requires
+put-record-requires c κs = search needs
 
 same-length : tie.Need-same-length
 same-length c = search needs
 
+returns : tie.Need-returns
+returns c = rw (c .before .before .before .before .before .item .given .1) (c .before .before .put-atom-fields .ensures)
+
+same-length-2 : tie.Need-same-length-2
+same-length-2 c = search needs
+
 returns-2 : tie.Need-returns-2
-unfolding fieldWords
-returns-2 c =
-    let a = c .before .before .before .before .before .before .before .before .before .args in
-    let room = c .before .before .before .before .before .before .if1 .left in
-    let few = rows-most (a .line .now) (a .item) in
-    fills (a .out .now) _ _ room
-    (rw (c .before .before .before .before .number-of .ensures, c .before .before .before .before .before .kind .ensures) (front-two (a .out .now) _ _ _ _ (omega arith) (c .before .before .put-present .ensures)))
+returns-2 c = search needs
 
 pub put-fields-spec : {M : Type 1} → statement M
 put-fields-spec =
     tie.close
     (tie.spec
-    returns
-    kind-requires
-    number-of-requires
-    put-present-requires
-    slice-write-out
-    sub-out
-    slice-write-out-2
+    enum-known-item
+    put-atom-fields-requires
+    put-record-requires
     same-length
+    returns
+    same-length-2
     returns-2)

@@ -14,11 +14,11 @@ is-present-requires c κs = search needs
 put-byte-requires : tie.Need-put-byte-requires
 put-byte-requires c κs = search needs
 
-cast-put-unsigned : tie.Need-cast-put-unsigned
-cast-put-unsigned c = search needs
+cast-put-column : tie.Need-cast-put-column
+cast-put-column c = search needs
 
-put-unsigned-requires : tie.Need-put-unsigned-requires
-put-unsigned-requires c κs = search needs
+put-column-requires : tie.Need-put-column-requires
+put-column-requires c κs = search needs
 
 put-byte-requires-2 : tie.Need-put-byte-requires-2
 put-byte-requires-2 c κs = search needs
@@ -37,7 +37,7 @@ unfolding rowBytes
 returns c =
     rw (sym (c .before .before .before .before .before .before .before .before .before .before .before .before .before .before .before .before .before .before .before .before .before .before .is-present .ensures) ∙ c .before .before .before .before .before .before .before .before .before .before .before .before .before .before .before .before .before .before .before .before .before .if1 .taken)
     (put-then _ _ _ _ _ (put-then _ _ _ _ _ (put-then _ _ _ _ _ (put-then _ _ _ _ _ (c .before .before .before .before .before .before .before .before .before .before .before .before .before .before .before .before .before .before .before .put-byte .ensures)
-    (c .before .before .before .before .before .before .before .before .before .before .before .before .before .before .put-unsigned .ensures))
+    (c .before .before .before .before .before .before .before .before .before .before .before .before .before .before .put-column .ensures))
     (c .before .before .before .before .before .before .before .before .before .before .put-byte2 .ensures))
     (c .before .before .before .before .before .before .put-value .ensures))
     (c .before .before .put-byte3 .ensures))
@@ -52,8 +52,8 @@ put-row-spec =
     (tie.spec
     is-present-requires
     put-byte-requires
-    cast-put-unsigned
-    put-unsigned-requires
+    cast-put-column
+    put-column-requires
     put-byte-requires-2
     put-value-requires
     put-byte-requires-3

@@ -1,4 +1,4 @@
--- `walker::lines::find_lf` meets its contract. The loop's invariant, which holds behind the blocks that were passed: the bytes before the LF are
+-- `walker::lines::find_lf` meets its contract. A line of 80 bytes is told at once. The loop's invariant, which holds behind the blocks that were passed: the bytes before the LF are
 -- those passed and those before it in the rest.
 -- Assumes nothing.
 use Prim.Native.Nat.{_+_, _-_}
@@ -17,20 +17,29 @@ Inv-loop file at i₀ i = i + beforeLf (drop i file) ≡ at + beforeLf (drop at 
 abbrev μ-loop : tie.MeasureT-loop
 μ-loop file at i₀ i = length file - i
 
+is-full-requires : tie.Need-is-full-requires Inv-loop μ-loop
+is-full-requires c κs = search needs
+
+add-result : tie.Need-add-result Inv-loop μ-loop
+add-result c = let h = (rw (c .if1 .taken) at (c .before .is-full .ensures)) .0 in search needs
+
+returns : tie.Need-returns Inv-loop μ-loop
+returns c = let h = (rw (c .if1 .taken) at (c .before .is-full .ensures)) .1 in omega arith
+
 skip-blocks-requires : tie.Need-skip-blocks-requires Inv-loop μ-loop
 skip-blocks-requires c κs = search needs
 
 loop-holds : tie.Need-loop-holds Inv-loop μ-loop
 loop-holds c = c .skip-blocks .ensures
 
-shared-slice-read-if1 : tie.Need-shared-slice-read-if1 Inv-loop μ-loop
-shared-slice-read-if1 c = search needs
+shared-slice-read-if2 : tie.Need-shared-slice-read-if2 Inv-loop μ-loop
+shared-slice-read-if2 c = search needs
 
-returns : tie.Need-returns Inv-loop μ-loop
-returns c =
-    let f = c .before .before .before .before .before .before .args .file .now in
+returns-2 : tie.Need-returns-2 Inv-loop μ-loop
+returns-2 c =
+    let f = c .before .before .before .before .before .before .before .before .args .file .now in
     let i = c .before .before .before .loop .i in
-    omega (arith, lf-here f i (c .before .before .loop-test .taken) (c .if1 .taken))
+    omega (arith, lf-here f i (c .before .before .loop-test .taken) (c .if2 .taken))
 
 add-i : tie.Need-add-i Inv-loop μ-loop
 add-i c = search needs
@@ -40,13 +49,13 @@ loop-less c = search needs
 
 loop-again : tie.Need-loop-again Inv-loop μ-loop
 loop-again c =
-    let f = c .before .before .before .before .before .before .args .file .now in
+    let f = c .before .before .before .before .before .before .before .before .args .file .now in
     let i = c .before .before .before .loop .i in
-    omega (arith, lf-other f i (c .before .before .loop-test .taken) (c .if1 .left))
+    omega (arith, lf-other f i (c .before .before .loop-test .taken) (c .if2 .left))
 
-returns-2 : tie.Need-returns-2 Inv-loop μ-loop
-returns-2 c =
-    let f = c .before .before .before .before .args .file .now in
+returns-3 : tie.Need-returns-3 Inv-loop μ-loop
+returns-3 c =
+    let f = c .before .before .before .before .before .before .args .file .now in
     let i = c .before .loop .i in
     omega (arith, lf-none f i (c .loop-test .left))
 
@@ -56,11 +65,14 @@ find-lf-spec =
     (tie.spec
     Inv-loop
     μ-loop
+    is-full-requires
+    add-result
+    returns
     skip-blocks-requires
     loop-holds
-    shared-slice-read-if1
-    returns
+    shared-slice-read-if2
+    returns-2
     add-i
     loop-less
     loop-again
-    returns-2)
+    returns-3)
