@@ -12,12 +12,18 @@ pub const NONE: u64 = 0xffff_ffff_ffff_ffff;
 // The bit of a minus in what is read.
 pub const MINUS: u64 = 0x8000_0000_0000_0000;
 
-// Eight bytes as one number, the first in the lowest place.
+// Four bytes as one number, the first in the lowest place.
+fn half(a: u8, b: u8, c: u8, d: u8) -> u32
+    ensures { λ r. ⌜ r ≡ specs.heldOf (a ∷ b ∷ c ∷ d ∷ []) ⌝ }
+{
+    ((d as u32 * 256 + c as u32) * 256 + b as u32) * 256 + a as u32
+}
+
+// Eight bytes likewise. The lower half is looked at by itself later on, and joined apart it is loaded at once.
 fn word(a: u8, b: u8, c: u8, d: u8, e: u8, f: u8, g: u8, h: u8) -> u64
     ensures { λ r. ⌜ r ≡ specs.heldOf (a ∷ b ∷ c ∷ d ∷ e ∷ f ∷ g ∷ h ∷ []) ⌝ }
 {
-    let behind = ((h as u64 * 256 + g as u64) * 256 + f as u64) * 256 + e as u64;
-    (((behind * 256 + d as u64) * 256 + c as u64) * 256 + b as u64) * 256 + a as u64
+    half(e, f, g, h) as u64 * 0x1_0000_0000 + half(a, b, c, d) as u64
 }
 
 // Which front four bytes seem to have: two for each that has not the bit of the digits, and one more for a minus, which is odd.

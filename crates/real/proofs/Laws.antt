@@ -4,6 +4,7 @@ pub mod Apart
 pub mod Halves
 pub mod Kept
 pub mod Value
+pub mod Turned
 pub mod Quotient
 pub mod Tells
 pub mod Powers

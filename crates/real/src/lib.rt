@@ -61,17 +61,19 @@ fn power(p: usize) -> f64
     converted(p)
 }
 
-// M over 10^p, with its sign. M goes by way of a signed integer, which a machine makes a double of in one step.
+// M over 10^p, with its sign, which goes with the divisor: whether a coordinate has a minus can't be guessed, and of two constants one is
+// taken without a guess. M goes by way of a signed integer, which a machine makes a double of in one step.
 fn double(minus: bool, digits: u64, places: usize) -> f64
     requires { ⌜ digits < 10 ^ 10 ⌝ }
     requires { ⌜ places ≤ 9 ⌝ }
     ensures { λ r. ⌜ r ≡ doubleOf minus digits places ⌝ }
 {
-    let quotient = ((digits as i64) as f64) / power(places);
+    let whole = (digits as i64) as f64;
+    let over = power(places);
     if minus {
-        return -quotient;
+        return whole / -over;
     }
-    quotient
+    whole / over
 }
 
 // The double of a plain decimal, and its places.

@@ -1,4 +1,4 @@
--- `number::word::word` meets its contract: what it is handed are bytes.
+-- `number::word::word` meets its contract: what it is handed are bytes, and its halves are their words.
 -- Assumes nothing.
 use native.Mathlib.Omega.{arith}
 use mathlib.Core.List.{[], _∷_}
@@ -7,72 +7,37 @@ use borrow.Author.Needs.{needs}
 use Rattle.number.proofs.word.word.Statement.{statement}
 use Rattle.number.proofs.word.word.Tie as tie
 
-mul-behind : tie.Need-mul-behind
-mul-behind c = search needs
+half-requires : tie.Need-half-requires
+half-requires c κs = search needs
 
-add-behind : tie.Need-add-behind
-add-behind c = search needs
-
-mul-behind-2 : tie.Need-mul-behind-2
-mul-behind-2 c = search needs
-
-add-behind-2 : tie.Need-add-behind-2
-add-behind-2 c = search needs
-
-mul-behind-3 : tie.Need-mul-behind-3
-mul-behind-3 c = search needs
-
-add-behind-3 : tie.Need-add-behind-3
-add-behind-3 c = search needs
+cast-result : tie.Need-cast-result
+cast-result c = search needs
 
 mul-result : tie.Need-mul-result
 mul-result c = search needs
 
+half-requires-2 : tie.Need-half-requires-2
+half-requires-2 c κs = search needs
+
+cast-result-2 : tie.Need-cast-result-2
+cast-result-2 c = search needs
+
 add-result : tie.Need-add-result
 add-result c = search needs
 
-mul-result-2 : tie.Need-mul-result-2
-mul-result-2 c = search needs
-
-add-result-2 : tie.Need-add-result-2
-add-result-2 c = search needs
-
-mul-result-3 : tie.Need-mul-result-3
-mul-result-3 c = search needs
-
-add-result-3 : tie.Need-add-result-3
-add-result-3 c = search needs
-
-mul-result-4 : tie.Need-mul-result-4
-mul-result-4 c = search needs
-
-add-result-4 : tie.Need-add-result-4
-add-result-4 c = search needs
-
 returns : tie.Need-returns
 returns c =
-    let a = c .args in
-    let f = c .fits in
-    let t = a .a ∷ a .b ∷ a .c ∷ a .d ∷ a .e ∷ a .f ∷ a .g ∷ a .h ∷ [] in
-    let each : Bytes t = (f .a .fits, (f .b .fits, (f .c .fits, (f .d .fits, (f .e .fits, (f .f .fits, (f .g .fits, (f .h .fits, tt)))))))) in
-    omega (arith, held-is t each)
+    let a = c .before .before .args in
+    let f = c .before .before .fits in
+    let lower = a .a ∷ a .b ∷ a .c ∷ a .d ∷ [] in
+    let upper = a .e ∷ a .f ∷ a .g ∷ a .h ∷ [] in
+    let whole = a .a ∷ a .b ∷ a .c ∷ a .d ∷ upper in
+    let behind : Bytes upper = (f .e .fits, (f .f .fits, (f .g .fits, (f .h .fits, tt)))) in
+    let each : Bytes whole = (f .a .fits, (f .b .fits, (f .c .fits, (f .d .fits, behind)))) in
+    let front : Bytes lower = (f .a .fits, (f .b .fits, (f .c .fits, (f .d .fits, tt)))) in
+    omega (arith, held-is whole each, held-is lower front, held-is upper behind, c .before .half .ensures, c .half2 .ensures)
 
 pub word-spec : {M : Type 1} → statement M
 word-spec =
     tie.close
-    (tie.spec
-    mul-behind
-    add-behind
-    mul-behind-2
-    add-behind-2
-    mul-behind-3
-    add-behind-3
-    mul-result
-    add-result
-    mul-result-2
-    add-result-2
-    mul-result-3
-    add-result-3
-    mul-result-4
-    add-result-4
-    returns)
+    (tie.spec half-requires cast-result mul-result half-requires-2 cast-result-2 add-result returns)
