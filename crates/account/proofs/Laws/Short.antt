@@ -1,9 +1,9 @@
 -- How long an account can be, so that a program knows what to lend.
 --     account-short     4,096 bytes have room for that of any line
 -- Assumes nothing.
-use Prim.Native.Nat.{ℕ, suc, _+_, _-_, _*_, _/_, _%_, _≤_, _<_, min}
+use Prim.Native.Nat.{ℕ, _+_, _-_, _*_, _≤_, _<_, min}
 use mathlib.Core.Path.{_≡_, refl}
-use mathlib.Core.Bool.{Bool, true, false, cond, _&&_}
+use mathlib.Core.Bool.{Bool, _&&_}
 use mathlib.Core.List.{List, [], _∷_, _++_}
 use native.Mathlib.Omega.{arith}
 use lib.Dec.{leb, eqb, ltb, lit≤}
@@ -25,25 +25,10 @@ use Rattle.line.specs.declared.fault.Fault.{Fault}
 use Rattle.names.proofs.Laws.Names.{name-short, default-short}
 use Rattle.number.specs.Trim.{trimmed}
 use Rattle.number.proofs.Laws.Trim.{trimmed-le}
-use Rattle.page.specs.Numerals.{decimal, decimalBefore}
+use Rattle.page.proofs.Laws.Decimal.{decimal-most}
+use Rattle.page.proofs.Laws.Lists.{either-most}
 use Rattle.account.specs.Account.{numbered, marked, shownLine, under, named, said, faultRow, faultRows, word, wordAt, atomWords, words, head, isCut, unread, unreadRows, acceptedRows, plural, columnOf, tooLong, highByte, tooEarly, tooShort, otherwise, why, shownFrom, around, refusedRows, accountBy, inputOf, account}
 use Rattle.account.proofs.Laws.Seen.{Seen, faults-seen}
-
--- one text or another
-either-most : (n : ℕ) (b : Bool) (s t : List ℕ) → length s ≤ n → length t ≤ n → length (cond b s t) ≤ n
-either-most n true s t h k = h
-either-most n false s t h k = k
-
-before-most : (k n : ℕ) (t : List ℕ) → length (decimalBefore k n t) ≤ k + length t
-unfolding decimalBefore
-before-most ℕ.zero n t = omega arith
-before-most (suc k) n t =
-    let rest = before-most k (n / 10) ((48 + n % 10) ∷ t) in
-    either-most (suc k + length t) (ltb n 10) ((48 + n) ∷ t) (decimalBefore k (n / 10) ((48 + n % 10) ∷ t)) (omega arith) (omega arith)
-
-decimal-most : (n : ℕ) → length (decimal n) ≤ 20
-unfolding decimal
-decimal-most n = before-most 20 n []
 
 numbered-most : (before : List ℕ) (n : ℕ) (after : List ℕ) → length (numbered before n after) ≤ length before + 20 + length after
 unfolding numbered

@@ -36,7 +36,8 @@ use Rattle.layout.specs.Label.{headRows, numberRow, threeRow}
 use Rattle.listing.specs.Listing.{listingOf, longest}
 use Rattle.layout.specs.Row.{rowsBytes}
 use Rattle.lexer.proofs.Laws.Accepted.{accepted-item, accepted-line, accepted-faults}
-use Rattle.listing.proofs.Laws.Room.{decimal-most, rows-room}
+use Rattle.page.proofs.Laws.Decimal.{decimal-most}
+use Rattle.listing.proofs.Laws.Room.{rows-room}
 use Rattle.listing.proofs.Laws.Table.{tableRoom, shown-room, sorted-room, rows-held}
 
 -- ---- the rows of a kind

@@ -1,9 +1,8 @@
 -- How many bytes rows take at most.
---     decimal-most      a number takes at most twenty digits
 --     rows-room         rows take no more than their room, which goes by the sorts of their values and the lengths of their texts
 --     text-most, within-most, from-most, end-most     and a text is no longer than its columns
 -- Assumes nothing.
-use Prim.Native.Nat.{ℕ, suc, _+_, _-_, _*_, _≤_, _/_, _%_}
+use Prim.Native.Nat.{ℕ, suc, _+_, _-_, _*_, _≤_}
 use mathlib.Core.Bool.{Bool, true, false, cond}
 use mathlib.Core.List.{List, [], _∷_, _++_}
 use native.Mathlib.Omega.{arith}
@@ -22,7 +21,8 @@ use Rattle.line.specs.declared.text.Text.{Text}
 use Rattle.number.specs.Trim.{trimmed, kept, leading, spanOf}
 use Rattle.number.specs.declared.trim.Span.{Span}
 use Rattle.number.proofs.Laws.Trim.{trimmed-le, kept-le}
-use Rattle.page.specs.Numerals.{decimalBefore, decimal, signedDecimal, escaped}
+use Rattle.page.specs.Numerals.{decimal, signedDecimal, escaped}
+use Rattle.page.proofs.Laws.Decimal.{decimal-most}
 use Rattle.page.proofs.Laws.Escaped.{escaped-length}
 use Rattle.page.proofs.Laws.Hex.{hex16-length}
 use Rattle.row.specs.declared.Row.{Row}
@@ -32,20 +32,6 @@ use Rattle.layout.specs.Each.{each}
 use Rattle.layout.specs.Row.{present, fieldBytes, valueBytes, rowBytes, rowsBytes}
 
 -- ---- numbers
-before-most : (k n : ℕ) (t : List ℕ) → length (decimalBefore k n t) ≤ k + length t
-unfolding decimalBefore
-before-most ℕ.zero n t = omega arith
-before-most (suc k) n t = go (ltb n 10) (before-most k (n / 10) ((48 + n % 10) ∷ t))
-  where
-    go : (b : Bool) → length (decimalBefore k (n / 10) ((48 + n % 10) ∷ t)) ≤ k + suc (length t)
-        → length (cond b ((48 + n) ∷ t) (decimalBefore k (n / 10) ((48 + n % 10) ∷ t))) ≤ suc k + length t
-    go true h = omega arith
-    go false h = omega arith
-
-pub decimal-most : (n : ℕ) → length (decimal n) ≤ 20
-unfolding decimal
-decimal-most n = before-most 20 n []
-
 signed-most : (z : ℤ) → length (signedDecimal z) ≤ 21
 unfolding signedDecimal
 signed-most (pos n) = let h = decimal-most n in omega arith

@@ -22,7 +22,8 @@ use Rattle.row.specs.declared.Value.the-variants.{Unsigned, Signed, Real, Facto
 use Rattle.seqres.specs.Seqres.{tripleAt, tripleText, triplesFrom, tripleRow, tripleRows}
 use Rattle.layout.specs.Each.{each}
 use Rattle.layout.specs.Row.{rowBytes, rowsBytes}
-use Rattle.listing.proofs.Laws.Room.{decimal-most, roomOf, rowRoom, rowsRoom, text-most, within-most, from-most, end-most}
+use Rattle.page.proofs.Laws.Decimal.{decimal-most}
+use Rattle.listing.proofs.Laws.Room.{roomOf, rowRoom, rowsRoom, text-most, within-most, from-most, end-most}
 
 abbrev labelled : ℕ → ℕ → ℕ
 labelled column room = 3 + length (decimal column) + room

@@ -2,6 +2,7 @@
 --     decimal-more, decimal-last           one digit gathered, and the first one, for the loop
 --     tenth-below, two-digits              a number below 10 ^ i that loses its last digit, and one that has two
 --     decimal-length, decimal-short        from 1 to 20 bytes, and at most k for a number below 10 ^ k
+--     decimal-most                         never more than 20, whatever the number
 --     decimal-digits, decimal-lead         every byte is a digit, and the first is 0 only for 0
 --     decimal-says, decimal-tells          the digits say the number, so different numbers have different digits
 --     decimal-no-feed                      no LF among them
@@ -17,7 +18,7 @@ use lib.ListN.{length, drop, getD, set}
 use lib.Dec.{ltb}
 use Rattle.page.specs.Numerals.{decimalBefore, decimal}
 use Rattle.page.specs.Said.{decimalSaid}
-use Rattle.page.proofs.Laws.Lists.{gathered, Between, between-member, no-feed}
+use Rattle.page.proofs.Laws.Lists.{gathered, Between, between-member, no-feed, either-most}
 
 -- ---- a loop's turn
 turn : (i m : ℕ) (t : List ℕ) → 0 < i → 9 < m → decimalBefore i m t ≡ decimalBefore (i - 1) (m / 10) ((48 + m % 10) ∷ t)
@@ -49,6 +50,18 @@ pub two-digits : (i m : ℕ) → m < 10 ^ i → 9 < m → 1 < i
 two-digits zero m h l = absurd (omega arith)
 two-digits (suc zero) m h l = absurd (omega arith)
 two-digits (suc (suc j)) m h l = omega arith
+
+-- ---- how many at most
+before-most : (k n : ℕ) (t : List ℕ) → length (decimalBefore k n t) ≤ k + length t
+unfolding decimalBefore
+before-most zero n t = omega arith
+before-most (suc k) n t =
+    let rest = before-most k (n / 10) ((48 + n % 10) ∷ t) in
+    either-most (suc k + length t) (ltb n 10) ((48 + n) ∷ t) (decimalBefore k (n / 10) ((48 + n % 10) ∷ t)) (omega arith) (omega arith)
+
+pub decimal-most : (n : ℕ) → length (decimal n) ≤ 20
+unfolding decimal
+decimal-most n = before-most 20 n []
 
 -- ---- all of them
 -- what holds of a number n before a text t and of the digits r, by a digit that stands alone and by the last of several

@@ -3,10 +3,12 @@
 --     rest-from                       a part of one, from a place to its end
 --     Between, between-member         every byte lies between two
 --     no-feed                         then there is no LF, if the lower one is above it
+--     either-most                     one text or another is no longer than both may be
 -- Assumes nothing.
 use Prim.Native.Nat.{ℕ, zero, suc, _-_, _≤_, _<_}
 use mathlib.Core.Path.{_≡_, refl}
 use mathlib.Core.Logic.{⊎-elim}
+use mathlib.Core.Bool.{Bool, true, false, cond}
 use mathlib.Core.List.{List, [], _∷_, List·Memᴰ, List·Memᴰ·cases-cons, List·Memᴰ·not-nil}
 use native.Mathlib.Omega.{arith}
 use lib.ListN.{length, take, drop, set, length-set, length-drop}
@@ -37,3 +39,7 @@ between-member low high b (x ∷ t) w m =
 -- bytes from 11 on have no LF among them
 pub no-feed : (low high : ℕ) (t : List ℕ) → 10 < low → Between low high t → List·Memᴰ 10 t → ⊥
 no-feed low high t l w m = let h = between-member low high 10 t w m in omega arith
+
+pub either-most : (n : ℕ) (b : Bool) (s t : List ℕ) → length s ≤ n → length t ≤ n → length (cond b s t) ≤ n
+either-most n true s t h k = h
+either-most n false s t h k = k

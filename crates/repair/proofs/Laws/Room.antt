@@ -2,7 +2,7 @@
 --     rows-room      50,000 bytes have room for the rows of any line
 --     line-room      and as many as it has, or 1,024, for the line
 -- Assumes nothing.
-use Prim.Native.Nat.{ℕ, suc, _+_, _*_, _/_, _%_, _≤_}
+use Prim.Native.Nat.{ℕ, _+_, _*_, _≤_}
 use mathlib.Core.Path.{_≡_, refl}
 use mathlib.Core.Bool.{Bool, true, false, cond}
 use mathlib.Core.List.{List, [], _∷_, _++_}
@@ -15,23 +15,10 @@ use Rattle.mend.specs.Mend.{mended, leftCut}
 use Rattle.mend.specs.Changes.{Change, changesOf, whatNumber}
 use Rattle.mend.proofs.Laws.Mended.{mended-length, pad-within}
 use Rattle.mend.proofs.Laws.Changes.{changes-few}
-use Rattle.page.specs.Numerals.{decimalBefore, decimal}
+use Rattle.page.specs.Numerals.{decimal}
+use Rattle.page.proofs.Laws.Decimal.{decimal-most}
 use Rattle.repair.specs.Rows.{columnsText, doneText, rowBy, changeRows, cutRow, cutRows, overRow}
 use Rattle.repair.specs.Repair.{lineFor, rowsFor}
-
-before-most : (k n : ℕ) (t : List ℕ) → length (decimalBefore k n t) ≤ k + length t
-unfolding decimalBefore
-before-most ℕ.zero n t = omega arith
-before-most (suc k) n t = go (ltb n 10) (before-most k (n / 10) ((48 + n % 10) ∷ t))
-  where
-    go : (b : Bool) → length (decimalBefore k (n / 10) ((48 + n % 10) ∷ t)) ≤ k + suc (length t)
-        → length (cond b ((48 + n) ∷ t) (decimalBefore k (n / 10) ((48 + n % 10) ∷ t))) ≤ suc k + length t
-    go true h = omega arith
-    go false h = omega arith
-
-decimal-most : (n : ℕ) → length (decimal n) ≤ 20
-unfolding decimal
-decimal-most n = before-most 20 n []
 
 columns-most : (number first last : ℕ) → length (columnsText number first last) ≤ 79
 unfolding columnsText

@@ -22,7 +22,7 @@ use Rattle.lexitem.specs.declared.answer.Refusal.{Refusal}
 use Rattle.listing.specs.Listed.{listingBy}
 use Rattle.listing.specs.Listing.{longest}
 use Rattle.listing.proofs.Laws.Longest.{listing-longest}
-use Rattle.listing.proofs.Laws.Room.{decimal-most}
+use Rattle.page.proofs.Laws.Decimal.{decimal-most}
 use Rattle.page.specs.Page.{Page, page, put}
 use Rattle.page.proofs.Laws.Page.{put-count, put-front}
 use Rattle.report.specs.Report.{refusedRows, reportBy, reportOf}

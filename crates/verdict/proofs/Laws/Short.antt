@@ -2,12 +2,11 @@
 --     verdict-short     at most so many are printed
 --     put-short         so the place behind what was put is there
 -- Assumes nothing.
-use Prim.Native.Nat.{ℕ, zero, suc, _+_, _/_, _%_, _≤_}
+use Prim.Native.Nat.{ℕ, _+_, _≤_}
 use mathlib.Core.Path.{_≡_, ap, _∙_}
-use mathlib.Core.Bool.{Bool, true, false, cond}
-use mathlib.Core.List.{List, [], _∷_}
+use mathlib.Core.List.{List}
 use native.Mathlib.Omega.{arith}
-use lib.Dec.{eqb, ltb, lit≤}
+use lib.Dec.{eqb, lit≤}
 use lib.ListN.{length, length-append}
 use Rattle.audit.specs.declared.Checked.{Checked}
 use Rattle.audit.specs.declared.Checked.the-variants as checked
@@ -15,28 +14,13 @@ use Rattle.audit.specs.declared.Compared.{Compared}
 use Rattle.layout.specs.Label.{threeRow}
 use Rattle.line.specs.Bytes.{bytes}
 use Rattle.master.specs.declared.record.Master.{Master}
-use Rattle.page.specs.Numerals.{decimal, decimalBefore}
 use Rattle.page.specs.Page.{Page, page, put}
+use Rattle.page.proofs.Laws.Decimal.{decimal-most}
+use Rattle.page.proofs.Laws.Lists.{either-most}
 use Rattle.page.proofs.Laws.Page.{put-count}
 use Rattle.tally.specs.Compare.{countsOf, saidBy, differing}
 use Rattle.tally.specs.declared.Tally.{Tally}
 use Rattle.verdict.specs.Verdict.{sameOrNot, row, upperRows, lowerRows, lacks, lastRow, comparedRows, why, refusedRows, verdictOf}
-
--- one text or another
-either-most : (n : ℕ) (b : Bool) (s t : List ℕ) → length s ≤ n → length t ≤ n → length (cond b s t) ≤ n
-either-most n true s t h k = h
-either-most n false s t h k = k
-
-before-most : (k n : ℕ) (t : List ℕ) → length (decimalBefore k n t) ≤ k + length t
-unfolding decimalBefore
-before-most zero n t = omega arith
-before-most (suc k) n t =
-    let rest = before-most k (n / 10) ((48 + n % 10) ∷ t) in
-    either-most (suc k + length t) (ltb n 10) ((48 + n) ∷ t) (decimalBefore k (n / 10) ((48 + n % 10) ∷ t)) (omega arith) (omega arith)
-
-decimal-most : (n : ℕ) → length (decimal n) ≤ 20
-unfolding decimal
-decimal-most n = before-most 20 n []
 
 -- ---- the rows
 row-most : (name : List ℕ) (a b : ℕ) → length (row name a b) ≤ length name + 67
