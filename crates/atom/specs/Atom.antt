@@ -29,6 +29,7 @@ use Rattle.atom.specs.declared.read.FineAtom.{FineAtom}
 use Rattle.atom.specs.declared.read.GotAtom.{GotAtom}
 use Rattle.atom.specs.declared.read.GotAnisou.{GotAnisou}
 
+-- the columns by name, for the records and their rows; the tables have them in numbers
 pub data Field : Type 0 where
   serial name alternate residue chain number insertion segment element charge : Field
   x y z occupancy bfactor : Field
@@ -61,27 +62,18 @@ at charge = 78 ⋯ 80
 -- what the three kinds share
 abbrev pub basicsTable : List Entry
 basicsTable =
-    u (at serial)
-    ∷ t (at name)
-    ∷ c? (at alternate)
-    ∷ t (at residue)
-    ∷ c (at chain)
-    ∷ i (at number)
-    ∷ c? (at insertion)
-    ∷ t (at segment)
-    ∷ t (at element)
-    ∷ Entry.charge (at charge)
-    ∷ []
+    u (6 ⋯ 11) ∷ t (12 ⋯ 16) ∷ c? (only 16) ∷ t (17 ⋯ 20) ∷ c (only 21) ∷ i (22 ⋯ 26) ∷ c? (only 26)
+    ∷ t (72 ⋯ 76) ∷ t (76 ⋯ 78) ∷ Entry.charge (78 ⋯ 80) ∷ []
 
 abbrev pub positionTable : List Entry
-positionTable = r (at x) zeroReal ∷ r (at y) zeroReal ∷ r (at z) zeroReal ∷ []
+positionTable = r (30 ⋯ 38) zeroReal ∷ r (38 ⋯ 46) zeroReal ∷ r (46 ⋯ 54) zeroReal ∷ []
 
 -- an occupancy that can't be read is 1.0
 abbrev pub atomTable : List Entry
-atomTable = positionTable ++ r (at occupancy) oneReal ∷ r (at bfactor) zeroReal ∷ basicsTable
+atomTable = positionTable ++ r (54 ⋯ 60) oneReal ∷ r (60 ⋯ 66) zeroReal ∷ basicsTable
 
 abbrev pub factorsTable : List Entry
-factorsTable = a (at u11) ∷ a (at u22) ∷ a (at u33) ∷ a (at u12) ∷ a (at u13) ∷ a (at u23) ∷ []
+factorsTable = a (28 ⋯ 35) ∷ a (35 ⋯ 42) ∷ a (42 ⋯ 49) ∷ a (49 ⋯ 56) ∷ a (56 ⋯ 63) ∷ a (63 ⋯ 70) ∷ []
 
 abbrev pub anisouTable : List Entry
 anisouTable = factorsTable ++ basicsTable

@@ -22,6 +22,7 @@ use Rattle.crystal.specs.declared.record.CellPlaces.{CellPlaces}
 use Rattle.crystal.specs.declared.record.Crystal.{Crystal}
 use Rattle.crystal.specs.declared.read.GotCrystal.{GotCrystal}
 
+-- the columns by name, for the record and its rows; the table has them in numbers
 pub data Field : Type 0 where
   a b c alpha beta gamma spacegroup : Field
 
@@ -34,29 +35,24 @@ at beta = 40 ⋯ 47
 at gamma = 47 ⋯ 54
 at spacegroup = 55 ⋯ 66
 
--- Z ends with the line, and is written only where the line is long enough
 abbrev pub zFrom : ℕ
 zFrom = 66
 
+-- Z ends with the line, and is written only where the line is long enough
 abbrev pub hasZ : List ℕ → Bool
-hasZ l = ltb zFrom (length l)
+hasZ l = ltb 66 (length l)
 
 abbrev pub zEntry : Bool → Entry
-zEntry true = u-rest zFrom
-zEntry false = unwritten zFrom
+zEntry true = u-rest 66
+zEntry false = unwritten 66
 
 abbrev pub cellTable : List Entry
 cellTable =
-    r (at a) zeroReal
-    ∷ r (at b) zeroReal
-    ∷ r (at c) zeroReal
-    ∷ r (at alpha) zeroReal
-    ∷ r (at beta) zeroReal
-    ∷ r (at gamma) zeroReal
-    ∷ []
+    r (6 ⋯ 15) zeroReal ∷ r (15 ⋯ 24) zeroReal ∷ r (24 ⋯ 33) zeroReal
+    ∷ r (33 ⋯ 40) zeroReal ∷ r (40 ⋯ 47) zeroReal ∷ r (47 ⋯ 54) zeroReal ∷ []
 
 abbrev pub crystalTable : Bool → List Entry
-crystalTable written = cellTable ++ t-within (at spacegroup) ∷ zEntry written ∷ []
+crystalTable written = cellTable ++ t-within (55 ⋯ 66) ∷ zEntry written ∷ []
 
 -- whether a real may have an exponent is the option's
 abbrev pub cellOf : Bool → List ℕ → Cell

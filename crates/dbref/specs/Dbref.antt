@@ -26,7 +26,26 @@ use Rattle.dbref.specs.declared.read.GotDbref.{GotDbref}
 use Rattle.dbref.specs.declared.read.GotDbref1.{GotDbref1}
 use Rattle.dbref.specs.declared.read.GotDbref2.{GotDbref2}
 
--- where a stretch of a sequence begins and ends, with insertion codes, in a record's columns
+-- ---- the tables
+-- in crate mode a DBREF1's end begins a column later
+abbrev pub endBy : Mode → Columns
+endBy Crate = 21 ⋯ 24
+endBy WwPdb = 20 ⋯ 24
+
+abbrev pub dbrefTable : List Entry
+dbrefTable =
+    t (7 ⋯ 11) ∷ t (12 ⋯ 13) ∷ i (14 ⋯ 18) ∷ c (only 18) ∷ i (20 ⋯ 24) ∷ c (only 24) ∷ t (26 ⋯ 32) ∷ t (33 ⋯ 41) ∷ t (42 ⋯ 54)
+    ∷ i (55 ⋯ 60) ∷ c (only 60) ∷ i (62 ⋯ 67) ∷ c (only 67) ∷ []
+
+abbrev pub dbref1Table : Mode → List Entry
+dbref1Table mode =
+    t (7 ⋯ 11) ∷ t (12 ⋯ 13) ∷ i (14 ⋯ 18) ∷ c (only 18) ∷ i (endBy mode) ∷ c (only 24) ∷ t (26 ⋯ 32) ∷ t (47 ⋯ 67) ∷ []
+
+abbrev pub dbref2Table : List Entry
+dbref2Table = t (7 ⋯ 11) ∷ t (12 ⋯ 13) ∷ t (18 ⋯ 40) ∷ i (45 ⋯ 55) ∷ i (57 ⋯ 67) ∷ []
+
+-- ---- the columns by name, for the records and their rows
+-- where a stretch of a sequence begins and ends, with insertion codes
 pub record SegmentAt : Type 0 where
   pub begin : Columns
   pub opening : Columns
@@ -38,11 +57,6 @@ endingIn end = record { begin = 14 ⋯ 18; opening = only 18; end = end; closing
 
 abbrev pub ownSegment : SegmentAt
 ownSegment = endingIn (20 ⋯ 24)
-
--- in crate mode a DBREF1's end begins a column later
-abbrev pub endBy : Mode → Columns
-endBy Crate = 21 ⋯ 24
-endBy WwPdb = 20 ⋯ 24
 
 abbrev pub segmentBy : Mode → SegmentAt
 segmentBy mode = endingIn (endBy mode)
@@ -65,24 +79,9 @@ at accession2 = 18 ⋯ 40
 at begin2 = 45 ⋯ 55
 at end2 = 57 ⋯ 67
 
+-- a segment's part of a table
 abbrev pub segmentTable : SegmentAt → List Entry
 segmentTable s = i (s .begin) ∷ c (s .opening) ∷ i (s .end) ∷ c (s .closing) ∷ []
-
-abbrev pub dbrefTable : List Entry
-dbrefTable =
-    t (at code)
-    ∷ t (at chain)
-    ∷ segmentTable ownSegment
-    ++ t (at database)
-    ∷ t (at accession)
-    ∷ t (at name)
-    ∷ segmentTable databaseSegment
-
-abbrev pub dbref1Table : Mode → List Entry
-dbref1Table mode = t (at code) ∷ t (at chain) ∷ segmentTable (segmentBy mode) ++ t (at database) ∷ t (at name1) ∷ []
-
-abbrev pub dbref2Table : List Entry
-dbref2Table = t (at code) ∷ t (at chain) ∷ t (at accession2) ∷ i (at begin2) ∷ i (at end2) ∷ []
 
 abbrev pub segmentOf : List ℕ → SegmentAt → Segment
 segmentOf l s = record {

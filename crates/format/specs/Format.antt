@@ -29,14 +29,8 @@ pub data FormatField : Type 0 where
 -- 7-11 serial, 13-16 name, 17 altLoc, 18-20 resName, 22 chainID, 23-26 resSeq, 27 iCode (A)
 abbrev atomHead : List FormatField
 atomHead =
-    integer at 6 ⋯ 11
-    ∷ text at 12 ⋯ 16
-    ∷ character at 16 ⋯ 17
-    ∷ text at 17 ⋯ 20
-    ∷ character at 21 ⋯ 22
-    ∷ integer at 22 ⋯ 26
-    ∷ character at 26 ⋯ 27
-    ∷ []
+    integer at 6 ⋯ 11 ∷ text at 12 ⋯ 16 ∷ character at 16 ⋯ 17 ∷ text at 17 ⋯ 20
+    ∷ character at 21 ⋯ 22 ∷ integer at 22 ⋯ 26 ∷ character at 26 ⋯ 27 ∷ []
 
 -- 77-78 element, 79-80 charge (A)
 abbrev atomEnd : List FormatField
@@ -73,15 +67,8 @@ formatOf Hetatm = atomAround atomReals []
 formatOf Anisou = atomAround atomFactors []
 -- 7-15 a, 16-24 b, 25-33 c, Real(9.3), 34-40 alpha, 41-47 beta, 48-54 gamma, Real(7.2), 56-66 sGroup, 67-70 z (A)
 formatOf Cryst1 =
-    real 3 at 6 ⋯ 15
-    ∷ real 3 at 15 ⋯ 24
-    ∷ real 3 at 24 ⋯ 33
-    ∷ real 2 at 33 ⋯ 40
-    ∷ real 2 at 40 ⋯ 47
-    ∷ real 2 at 47 ⋯ 54
-    ∷ text at 55 ⋯ 66
-    ∷ integer at 66 ⋯ 70
-    ∷ []
+    real 3 at 6 ⋯ 15 ∷ real 3 at 15 ⋯ 24 ∷ real 3 at 24 ⋯ 33 ∷ real 2 at 33 ⋯ 40 ∷ real 2 at 40 ⋯ 47 ∷ real 2 at 47 ⋯ 54
+    ∷ text at 55 ⋯ 66 ∷ integer at 66 ⋯ 70 ∷ []
 formatOf (Scale row) = matrixRow
 formatOf (Origx row) = matrixRow
 -- 8-10 serial, 60 iGiven (A)
@@ -94,93 +81,35 @@ formatOf Master = map (λ columns. integer at columns) (inRow 12 5 10)
 -- 8-11 idCode, 13 chainID, 15-18 seqBegin, 21-24 seqEnd, 27-32 database, 34-41 dbAccession, 43-54 dbIdCode, 56-60 dbseqBegin, 63-67
 -- dbseqEnd, and behind each of the four numbers its insertion code, 19, 25, 61 and 68 (A)
 formatOf Dbref =
-    text at 7 ⋯ 11
-    ∷ character at 12 ⋯ 13
-    ∷ integer at 14 ⋯ 18
-    ∷ character at 18 ⋯ 19
-    ∷ integer at 20 ⋯ 24
-    ∷ character at 24 ⋯ 25
-    ∷ text at 26 ⋯ 32
-    ∷ text at 33 ⋯ 41
-    ∷ text at 42 ⋯ 54
-    ∷ integer at 55 ⋯ 60
-    ∷ character at 60 ⋯ 61
-    ∷ integer at 62 ⋯ 67
-    ∷ character at 67 ⋯ 68
-    ∷ []
+    text at 7 ⋯ 11 ∷ character at 12 ⋯ 13 ∷ integer at 14 ⋯ 18 ∷ character at 18 ⋯ 19 ∷ integer at 20 ⋯ 24 ∷ character at 24 ⋯ 25
+    ∷ text at 26 ⋯ 32 ∷ text at 33 ⋯ 41 ∷ text at 42 ⋯ 54
+    ∷ integer at 55 ⋯ 60 ∷ character at 60 ⋯ 61 ∷ integer at 62 ⋯ 67 ∷ character at 67 ⋯ 68 ∷ []
 -- 8-11 idCode, 13 chainID, 15-18 seqBegin and 19 its insertion code, 21-24 seqEnd and 25 its insertion code, 27-32 database, 48-67
 -- dbIdCode (B)
 formatOf Dbref1 =
-    text at 7 ⋯ 11
-    ∷ character at 12 ⋯ 13
-    ∷ integer at 14 ⋯ 18
-    ∷ character at 18 ⋯ 19
-    ∷ integer at 20 ⋯ 24
-    ∷ character at 24 ⋯ 25
-    ∷ text at 26 ⋯ 32
-    ∷ text at 47 ⋯ 67
-    ∷ []
+    text at 7 ⋯ 11 ∷ character at 12 ⋯ 13 ∷ integer at 14 ⋯ 18 ∷ character at 18 ⋯ 19 ∷ integer at 20 ⋯ 24 ∷ character at 24 ⋯ 25
+    ∷ text at 26 ⋯ 32 ∷ text at 47 ⋯ 67 ∷ []
 -- 8-11 idCode, 13 chainID, 19-40 dbAccession, 46-55 and 58-67 where the stretch begins and ends in the database (B)
 formatOf Dbref2 = text at 7 ⋯ 11 ∷ character at 12 ⋯ 13 ∷ text at 18 ⋯ 40 ∷ integer at 45 ⋯ 55 ∷ integer at 57 ⋯ 67 ∷ []
 -- 8-10 serNum, 12 chainID, 14-17 numRes (B); thirteen residue names, 20-22, 24-26 and so on to 68-70 (A)
 formatOf Seqres =
-    integer at 7 ⋯ 10
-    ∷ character at 11 ⋯ 12
-    ∷ integer at 13 ⋯ 17
-    ∷ text at 19 ⋯ 22
-    ∷ text at 23 ⋯ 26
-    ∷ text at 27 ⋯ 30
-    ∷ text at 31 ⋯ 34
-    ∷ text at 35 ⋯ 38
-    ∷ text at 39 ⋯ 42
-    ∷ text at 43 ⋯ 46
-    ∷ text at 47 ⋯ 50
-    ∷ text at 51 ⋯ 54
-    ∷ text at 55 ⋯ 58
-    ∷ text at 59 ⋯ 62
-    ∷ text at 63 ⋯ 66
-    ∷ text at 67 ⋯ 70
-    ∷ []
+    integer at 7 ⋯ 10 ∷ character at 11 ⋯ 12 ∷ integer at 13 ⋯ 17
+    ∷ text at 19 ⋯ 22 ∷ text at 23 ⋯ 26 ∷ text at 27 ⋯ 30 ∷ text at 31 ⋯ 34 ∷ text at 35 ⋯ 38 ∷ text at 39 ⋯ 42 ∷ text at 43 ⋯ 46
+    ∷ text at 47 ⋯ 50 ∷ text at 51 ⋯ 54 ∷ text at 55 ⋯ 58 ∷ text at 59 ⋯ 62 ∷ text at 63 ⋯ 66 ∷ text at 67 ⋯ 70 ∷ []
 -- 8-11 idCode, 13-15 residue name, 17 chainID, 19-22 seqNum, 23 iCode, 25-28 database, 30-38 dbAccession, 40-42 dbRes, 44-48 dbSeq, 50-70
 -- conflict (B)
 formatOf Seqadv =
-    text at 7 ⋯ 11
-    ∷ text at 12 ⋯ 15
-    ∷ character at 16 ⋯ 17
-    ∷ integer at 18 ⋯ 22
-    ∷ character at 22 ⋯ 23
-    ∷ text at 24 ⋯ 28
-    ∷ text at 29 ⋯ 38
-    ∷ text at 39 ⋯ 42
-    ∷ integer at 43 ⋯ 48
-    ∷ text at 49 ⋯ 70
-    ∷ []
+    text at 7 ⋯ 11 ∷ text at 12 ⋯ 15 ∷ character at 16 ⋯ 17 ∷ integer at 18 ⋯ 22 ∷ character at 22 ⋯ 23
+    ∷ text at 24 ⋯ 28 ∷ text at 29 ⋯ 38 ∷ text at 39 ⋯ 42 ∷ integer at 43 ⋯ 48 ∷ text at 49 ⋯ 70 ∷ []
 -- 8-11 idCode, 13-15 residue name, 17 chainID, 19-22 seqNum, 23 iCode, 25-27 stdRes, 30-70 comment (B)
 formatOf Modres =
-    text at 7 ⋯ 11
-    ∷ text at 12 ⋯ 15
-    ∷ character at 16 ⋯ 17
-    ∷ integer at 18 ⋯ 22
-    ∷ character at 22 ⋯ 23
-    ∷ text at 24 ⋯ 27
-    ∷ text at 29 ⋯ 70
-    ∷ []
+    text at 7 ⋯ 11 ∷ text at 12 ⋯ 15 ∷ character at 16 ⋯ 17 ∷ integer at 18 ⋯ 22 ∷ character at 22 ⋯ 23 ∷ text at 24 ⋯ 27 ∷ text at 29 ⋯ 70 ∷ []
 -- 8-10 serNum, 12-14 `CYS`, 16 its chain, 18-21 its number, 22 its insertion code, 26-28 `CYS`, 30, 32-35 and 36 the same of the second,
 -- 60-65 and 67-72 their operators (A); 74-78 Length, Real(5.2) (B)
 formatOf Ssbond =
-    integer at 7 ⋯ 10
-    ∷ text at 11 ⋯ 14
-    ∷ character at 15 ⋯ 16
-    ∷ integer at 17 ⋯ 21
-    ∷ character at 21 ⋯ 22
-    ∷ text at 25 ⋯ 28
-    ∷ character at 29 ⋯ 30
-    ∷ integer at 31 ⋯ 35
-    ∷ character at 35 ⋯ 36
-    ∷ text at 59 ⋯ 65
-    ∷ text at 66 ⋯ 72
-    ∷ real 2 at 73 ⋯ 78
-    ∷ []
+    integer at 7 ⋯ 10 ∷ text at 11 ⋯ 14 ∷ character at 15 ⋯ 16 ∷ integer at 17 ⋯ 21 ∷ character at 21 ⋯ 22
+    ∷ text at 25 ⋯ 28 ∷ character at 29 ⋯ 30 ∷ integer at 31 ⋯ 35 ∷ character at 35 ⋯ 36
+    ∷ text at 59 ⋯ 65 ∷ text at 66 ⋯ 72 ∷ real 2 at 73 ⋯ 78 ∷ []
 -- the name alone (A)
 formatOf Endmdl = []
 -- 7-11 serial, 18-20 resName, 22 chainID, 23-26 resSeq, 27 iCode (B)

@@ -14,6 +14,7 @@ use Rattle.row.specs.declared.Value.the-variants.{Words}
 use Rattle.header.specs.declared.record.Header.{Header}
 use Rattle.header.specs.declared.read.GotHeader.{GotHeader}
 
+-- the columns by name, for the record and its rows; the table has them in numbers
 pub data Field : Type 0 where
   classification date code : Field
 
@@ -23,7 +24,7 @@ at date = 50 ⋯ 59
 at code = 62 ⋯ 66
 
 abbrev pub headerTable : List Entry
-headerTable = x (at classification) ∷ x (at date) ∷ x (at code) ∷ []
+headerTable = x (10 ⋯ 50) ∷ x (50 ⋯ 59) ∷ x (62 ⋯ 66) ∷ []
 
 -- X is the columns as they stand, as a text
 abbrev pub standing : Columns → Text

@@ -34,35 +34,12 @@ kept s k = record { name = bytes s; kind = k; isKept = true }
 -- in the order of the kinds' numbers, from 0 on
 abbrev pub names : List Named
 names =
-    kept "EMPTY " Empty
-    ∷ named "HEADER" Header
-    ∷ named "REMARK" Remark
-    ∷ kept "ATOM  " Atom
-    ∷ kept "HETATM" Hetatm
-    ∷ named "ANISOU" Anisou
-    ∷ named "CRYST1" Cryst1
-    ∷ named "SCALE1" (Scale 0)
-    ∷ named "SCALE2" (Scale 1)
-    ∷ named "SCALE3" (Scale 2)
-    ∷ named "ORIGX1" (Origx 0)
-    ∷ named "ORIGX2" (Origx 1)
-    ∷ named "ORIGX3" (Origx 2)
-    ∷ named "MTRIX1" (Mtrix 0)
-    ∷ named "MTRIX2" (Mtrix 1)
-    ∷ named "MTRIX3" (Mtrix 2)
-    ∷ kept "MODEL " Model
-    ∷ named "MASTER" Master
-    ∷ named "DBREF " Dbref
-    ∷ named "DBREF1" Dbref1
-    ∷ named "DBREF2" Dbref2
-    ∷ named "SEQRES" Seqres
-    ∷ named "SEQADV" Seqadv
-    ∷ named "MODRES" Modres
-    ∷ named "SSBOND" Ssbond
-    ∷ kept "ENDMDL" Endmdl
-    ∷ kept "TER   " Ter
-    ∷ kept "END   " End
-    ∷ []
+    kept "EMPTY " Empty ∷ named "HEADER" Header ∷ named "REMARK" Remark ∷ kept "ATOM  " Atom ∷ kept "HETATM" Hetatm ∷ named "ANISOU" Anisou
+    ∷ named "CRYST1" Cryst1 ∷ named "SCALE1" (Scale 0) ∷ named "SCALE2" (Scale 1) ∷ named "SCALE3" (Scale 2)
+    ∷ named "ORIGX1" (Origx 0) ∷ named "ORIGX2" (Origx 1) ∷ named "ORIGX3" (Origx 2)
+    ∷ named "MTRIX1" (Mtrix 0) ∷ named "MTRIX2" (Mtrix 1) ∷ named "MTRIX3" (Mtrix 2) ∷ kept "MODEL " Model ∷ named "MASTER" Master
+    ∷ named "DBREF " Dbref ∷ named "DBREF1" Dbref1 ∷ named "DBREF2" Dbref2 ∷ named "SEQRES" Seqres ∷ named "SEQADV" Seqadv
+    ∷ named "MODRES" Modres ∷ named "SSBOND" Ssbond ∷ kept "ENDMDL" Endmdl ∷ kept "TER   " Ter ∷ kept "END   " End ∷ []
 
 -- no kind's number, and no name's place
 abbrev pub noKind : ℕ

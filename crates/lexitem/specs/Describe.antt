@@ -42,12 +42,8 @@ plainly table item = record { bound = bound.Free; part = λ l. false; table = λ
 
 -- one whose fields go by the mode
 abbrev pub moded : (Mode → List Entry) → (Mode → List ℕ → LexItem) → Description
-moded table item = record {
-  bound = bound.Free;
-  part = λ l. false;
-  table = λ mode part. table mode;
-  item = λ g. item (g .options .mode) (g .line);
-}
+moded table item =
+    record { bound = bound.Free; part = λ l. false; table = λ mode part. table mode; item = λ g. item (g .options .mode) (g .line) }
 
 -- one that asks something
 abbrev pub asking : Bound → List Entry → (Given → LexItem) → Description

@@ -16,6 +16,7 @@ use Rattle.row.specs.declared.Value.the-variants.{Unsigned}
 use Rattle.model.specs.declared.record.Model.{Model}
 use Rattle.model.specs.declared.read.GotModel.{GotModel}
 
+-- the columns by name, for the record and its row; the table has them in numbers
 abbrev pub numberFrom : ℕ
 numberFrom = 6
 
@@ -23,8 +24,8 @@ abbrev pub serialAt : Columns
 serialAt = 10 ⋯ 14
 
 abbrev pub modelTable : Mode → List Entry
-modelTable Crate = u-rest numberFrom ∷ []
-modelTable WwPdb = u serialAt ∷ []
+modelTable Crate = u-rest 6 ∷ []
+modelTable WwPdb = u (10 ⋯ 14) ∷ []
 
 abbrev pub numberBy : Mode → List ℕ → ℕ
 numberBy Crate l = unsignedFrom l numberFrom

@@ -15,6 +15,7 @@ use Rattle.row.specs.declared.Value.the-variants.{Signed, Words, One}
 use Rattle.modres.specs.declared.record.Modres.{Modres}
 use Rattle.modres.specs.declared.read.GotModres.{GotModres}
 
+-- the columns by name, for the record and its rows; the table has them in numbers
 pub data Field : Type 0 where
   code residue chain number insertion standard : Field
 
@@ -30,15 +31,7 @@ abbrev pub commentFrom : ℕ
 commentFrom = 29
 
 abbrev pub modresTable : List Entry
-modresTable =
-    t (at code)
-    ∷ t (at residue)
-    ∷ c (at chain)
-    ∷ i (at number)
-    ∷ c? (at insertion)
-    ∷ t (at standard)
-    ∷ t-rest commentFrom
-    ∷ []
+modresTable = t (7 ⋯ 11) ∷ t (12 ⋯ 15) ∷ c (only 16) ∷ i (18 ⋯ 22) ∷ c? (only 22) ∷ t (24 ⋯ 27) ∷ t-rest 29 ∷ []
 
 abbrev pub modresOf : List ℕ → Modres
 modresOf l = record {

@@ -1,11 +1,12 @@
 -- The theorems.
 pub mod RealsNamed
 pub mod RealsTable
-pub mod RealsField
-pub mod Reals
-pub mod Held
 pub mod Kinds
 pub mod Fields
+pub mod RealsField
+pub mod Reals
+pub mod RealsAll
+pub mod Held
 pub mod Agreeing
 pub mod Numbered
 pub mod Refusing

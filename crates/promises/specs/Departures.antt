@@ -2,7 +2,7 @@
 -- of the one from the other.
 --     fieldsOfTable           the fields of a table of ours
 --     without                 what one list has and the other lacks
---     compared, departures    a kind's two differences in a mode, as computed and as stated
+--     ours, theirs, Departs   a kind's two differences in a mode, as computed and as stated
 -- Departures that aren't about columns or sorts stand in docs/DIFFERENCES.md only: an unsigned serial, a blank seqNum that is a fault, an
 -- `ENDMDL` of six bytes that is END in crate mode, defaults, short lines, kinds that the lexer makes EMPTY.
 use Prim.Native.Nat.{ℕ, suc, _+_}
@@ -18,7 +18,7 @@ use Rattle.format.specs.Format.Sort.{integer, real, text, character}
 use Rattle.format.specs.Format.FormatField.{_at_, _from_}
 use Rattle.lexitem.specs.Describe.{tableOf}
 use Rattle.kind.specs.declared.Kind.{Kind}
-use Rattle.kind.specs.declared.Kind.the-variants.{Empty, Header, Remark, Atom, Hetatm, Anisou, Cryst1, Scale, Origx, Mtrix, Model, Master, Dbref, Dbref1, Dbref2, Seqres, Seqadv, Modres, Ssbond, Endmdl, Ter, End}
+use Rattle.kind.specs.declared.Kind.the-variants.{Remark, Atom, Hetatm, Anisou, Cryst1, Model, Dbref, Dbref1, Dbref2, Seqadv, Modres, Ssbond, Ter}
 
 -- ---- our tables as such fields
 
@@ -76,66 +76,33 @@ abbrev pub without : List FormatField → List FormatField → List FormatField
 without [] others = []
 without (f ∷ rest) others = cond (among f others) (without rest others) (f ∷ without rest others)
 
-pub record Departures : Type 0 where
-  -- what our table has and the format's lacks, and the reverse
-  pub ours : List FormatField
-  pub theirs : List FormatField
+-- what our table of a kind has in a mode and the format's lacks, and the reverse; a kind with a part that only some lines have is taken with it
+abbrev pub ours : Mode → Kind → List FormatField
+ours mode k = without (fieldsOfTable (tableOf mode k true)) (formatOf k)
 
--- a kind's two differences in a mode; a kind with a part that only some lines have is taken with it
-abbrev pub compared : Mode → Kind → Departures
-compared mode k = record {
-  ours = without (fieldsOfTable (tableOf mode k true)) (formatOf k);
-  theirs = without (formatOf k) (fieldsOfTable (tableOf mode k true));
-}
+abbrev pub theirs : Mode → Kind → List FormatField
+theirs mode k = without (formatOf k) (fieldsOfTable (tableOf mode k true))
 
-abbrev none : Departures
-none = record { ours = []; theirs = [] }
-
--- the segment name of older versions
-abbrev segmentRead : Departures
-segmentRead = record { ours = text at 72 ⋯ 76 ∷ []; theirs = [] }
-
--- the chain is a text
-abbrev chainRead : Departures
-chainRead = record { ours = text at 12 ⋯ 13 ∷ []; theirs = character at 12 ⋯ 13 ∷ [] }
-
--- the list that docs/DIFFERENCES.md has in words
-abbrev pub departures : Mode → Kind → Departures
-departures mode Empty = none
-departures mode Header = none
--- the text goes to the line's end
-departures mode Remark = record { ours = text from 11 ∷ []; theirs = text at 11 ⋯ 79 ∷ [] }
-departures mode Atom = segmentRead
-departures mode Hetatm = segmentRead
-departures mode Anisou = segmentRead
--- Z ends with the line
-departures mode Cryst1 = record { ours = integer from 66 ∷ []; theirs = integer at 66 ⋯ 70 ∷ [] }
-departures mode (Scale row) = none
-departures mode (Origx row) = none
-departures mode (Mtrix row) = none
--- in crate mode the serial takes all that follows the name
-departures Crate Model = record { ours = integer from 6 ∷ []; theirs = integer at 10 ⋯ 14 ∷ [] }
-departures WwPdb Model = none
-departures mode Master = none
-departures mode Dbref = chainRead
--- the same, and in crate mode the end's number begins a column late
-departures Crate Dbref1 = record {
-  ours = text at 12 ⋯ 13 ∷ integer at 21 ⋯ 24 ∷ [];
-  theirs = character at 12 ⋯ 13 ∷ integer at 20 ⋯ 24 ∷ [];
-}
-departures WwPdb Dbref1 = chainRead
-departures mode Dbref2 = chainRead
-departures mode Seqres = none
--- the chain is a text, and the comment goes to the line's end
-departures mode Seqadv = record { ours = text at 16 ⋯ 17 ∷ text from 49 ∷ []; theirs = character at 16 ⋯ 17 ∷ text at 49 ⋯ 70 ∷ [] }
--- the comment goes to the line's end
-departures mode Modres = record { ours = text from 29 ∷ []; theirs = text at 29 ⋯ 70 ∷ [] }
--- the serial isn't read
-departures mode Ssbond = record { ours = []; theirs = integer at 7 ⋯ 10 ∷ [] }
-departures mode Endmdl = none
--- none is read
-departures mode Ter = record {
-  ours = [];
-  theirs = integer at 6 ⋯ 11 ∷ text at 17 ⋯ 20 ∷ character at 21 ⋯ 22 ∷ integer at 22 ⋯ 26 ∷ character at 26 ⋯ 27 ∷ [];
-}
-departures mode End = none
+-- the list that docs/DIFFERENCES.md has in words: a kind, in a mode, with what is ours alone and what is theirs
+pub data Departs : Mode → Kind → List FormatField → List FormatField → Type 0 where
+  -- REMARK's text goes to the line's end, and so do Z, which is CRYST1's last, and the comments of SEQADV and MODRES
+  remark : {mode : Mode} → Departs mode Remark (text from 11 ∷ []) (text at 11 ⋯ 79 ∷ [])
+  cryst1 : {mode : Mode} → Departs mode Cryst1 (integer from 66 ∷ []) (integer at 66 ⋯ 70 ∷ [])
+  modres : {mode : Mode} → Departs mode Modres (text from 29 ∷ []) (text at 29 ⋯ 70 ∷ [])
+  -- the segment name of older versions is read
+  atom : {mode : Mode} → Departs mode Atom (text at 72 ⋯ 76 ∷ []) []
+  hetatm : {mode : Mode} → Departs mode Hetatm (text at 72 ⋯ 76 ∷ []) []
+  anisou : {mode : Mode} → Departs mode Anisou (text at 72 ⋯ 76 ∷ []) []
+  -- in crate mode the serial takes all that follows the name
+  model : Departs Crate Model (integer from 6 ∷ []) (integer at 10 ⋯ 14 ∷ [])
+  -- the chain is a text, and DBREF1's end begins a column late in crate mode
+  dbref : {mode : Mode} → Departs mode Dbref (text at 12 ⋯ 13 ∷ []) (character at 12 ⋯ 13 ∷ [])
+  dbref1 : Departs Crate Dbref1 (text at 12 ⋯ 13 ∷ integer at 21 ⋯ 24 ∷ []) (character at 12 ⋯ 13 ∷ integer at 20 ⋯ 24 ∷ [])
+  dbref1-there : Departs WwPdb Dbref1 (text at 12 ⋯ 13 ∷ []) (character at 12 ⋯ 13 ∷ [])
+  dbref2 : {mode : Mode} → Departs mode Dbref2 (text at 12 ⋯ 13 ∷ []) (character at 12 ⋯ 13 ∷ [])
+  seqadv : {mode : Mode} → Departs mode Seqadv (text at 16 ⋯ 17 ∷ text from 49 ∷ []) (character at 16 ⋯ 17 ∷ text at 49 ⋯ 70 ∷ [])
+  -- the serial isn't read
+  ssbond : {mode : Mode} → Departs mode Ssbond [] (integer at 7 ⋯ 10 ∷ [])
+  -- none is read
+  ter : {mode : Mode}
+      → Departs mode Ter [] (integer at 6 ⋯ 11 ∷ text at 17 ⋯ 20 ∷ character at 21 ⋯ 22 ∷ integer at 22 ⋯ 26 ∷ character at 26 ⋯ 27 ∷ [])

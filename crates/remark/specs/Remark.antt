@@ -16,6 +16,7 @@ use Rattle.row.specs.declared.Value.the-variants.{Unsigned, Words}
 use Rattle.remark.specs.declared.record.Remark.{Remark}
 use Rattle.remark.specs.declared.read.GotRemark.{GotRemark}
 
+-- the columns by name, for the record and its rows; the table has them in numbers
 abbrev pub numberAt : Columns
 numberAt = 7 ⋯ 10
 
@@ -23,7 +24,7 @@ abbrev pub textFrom : ℕ
 textFrom = 11
 
 abbrev pub remarkTable : List Entry
-remarkTable = u numberAt ∷ known numberAt ∷ t-end textFrom ∷ []
+remarkTable = u (7 ⋯ 10) ∷ known (7 ⋯ 10) ∷ t-end 11 ∷ []
 
 abbrev pub remarkOf : List ℕ → Remark
 remarkOf l = record { number = unsignedAt l numberAt; text = endTextFrom l textFrom }

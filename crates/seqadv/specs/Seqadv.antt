@@ -22,6 +22,7 @@ use Rattle.seqadv.specs.declared.record.Target.the-variants.{Residue, No
 use Rattle.seqadv.specs.declared.read.GotSeqadv.{GotSeqadv}
 use Rattle.seqadv.specs.declared.read.GotTarget.{GotTarget}
 
+-- the columns by name, for the record and its rows; the table has them in numbers
 pub data Field : Type 0 where
   code residue chain number insertion database accession target name position : Field
 
@@ -48,25 +49,15 @@ blanks (b ∷ rest) = eqb b 32 && blanks rest
 
 -- whether the line names a residue of the database
 unfoldable pub hasTarget : List ℕ → Bool
-hasTarget l = not (blanks (partOf l (at target)))
+hasTarget l = not (blanks (partOf l (39 ⋯ 48)))
 
 abbrev pub targetTable : Bool → List Entry
-targetTable true = t (at name) ∷ i (at position) ∷ []
+targetTable true = t (39 ⋯ 42) ∷ i (43 ⋯ 48) ∷ []
 targetTable false = []
 
-abbrev pub seqadvHead : List Entry
-seqadvHead =
-    t (at code)
-    ∷ t (at residue)
-    ∷ t (at chain)
-    ∷ i (at number)
-    ∷ c? (at insertion)
-    ∷ t (at database)
-    ∷ t (at accession)
-    ∷ []
-
 abbrev pub seqadvTable : Bool → List Entry
-seqadvTable named = seqadvHead ++ targetTable named ++ t-rest commentFrom ∷ []
+seqadvTable named =
+    t (7 ⋯ 11) ∷ t (12 ⋯ 15) ∷ t (16 ⋯ 17) ∷ i (18 ⋯ 22) ∷ c? (only 22) ∷ t (24 ⋯ 28) ∷ t (29 ⋯ 38) ∷ targetTable named ++ t-rest 49 ∷ []
 
 abbrev pub targetOf : Bool → List ℕ → Target
 targetOf true l = Residue (textAt l (at name)) (signedAt l (at position))

@@ -20,6 +20,7 @@ use Rattle.row.specs.declared.Value.the-variants.{Unsigned, Words, One, Nothing
 use Rattle.seqres.specs.declared.record.Seqres.{Seqres}
 use Rattle.seqres.specs.declared.read.GotSeqres.{GotSeqres}
 
+-- the columns by name, for the record and its rows; the table has them in numbers
 pub data Field : Type 0 where
   serial chain residues : Field
 
@@ -33,7 +34,7 @@ abbrev pub tripleAt : ℕ → ℕ
 tripleAt index = 19 + 4 * index
 
 abbrev pub seqresTable : List Entry
-seqresTable = u (at serial) ∷ c (at chain) ∷ u (at residues) ∷ triples (tripleAt 0) ∷ []
+seqresTable = u (7 ⋯ 10) ∷ c (only 11) ∷ u (13 ⋯ 17) ∷ triples 19 ∷ []
 
 -- three blanks at a column
 unfoldable pub blankTriple : List ℕ → ℕ → Bool

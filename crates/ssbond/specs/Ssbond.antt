@@ -25,6 +25,7 @@ use Rattle.ssbond.specs.declared.read.GotResidue.{GotResidue}
 use Rattle.ssbond.specs.declared.read.GotTail.{GotTail}
 use Rattle.ssbond.specs.declared.read.GotSSBond.{GotSSBond}
 
+-- the columns by name, for the record and its rows; the table has them in numbers
 -- the residues on the two sides of a bond
 pub data Side : Type 0 where
   first second : Side
@@ -48,17 +49,15 @@ at (operator second) = 66 ⋯ 72
 at distance = 73 ⋯ 78
 
 abbrev pub hasTail : List ℕ → Bool
-hasTail l = leb (at distance .end) (length l)
-
-abbrev pub residueTable : Side → List Entry
-residueTable s = t (at (name s)) ∷ c (at (chain s)) ∷ i (at (number s)) ∷ c? (at (insertion s)) ∷ []
+hasTail l = leb 78 (length l)
 
 abbrev pub tailTable : Bool → List Entry
-tailTable true = t (at (operator first)) ∷ t (at (operator second)) ∷ r (at distance) zeroReal ∷ []
+tailTable true = t (59 ⋯ 65) ∷ t (66 ⋯ 72) ∷ r (73 ⋯ 78) zeroReal ∷ []
 tailTable false = []
 
 abbrev pub ssbondTable : Bool → List Entry
-ssbondTable tail = residueTable first ++ residueTable second ++ tailTable tail
+ssbondTable tail =
+    t (11 ⋯ 14) ∷ c (only 15) ∷ i (17 ⋯ 21) ∷ c? (only 21) ∷ t (25 ⋯ 28) ∷ c (only 29) ∷ i (31 ⋯ 35) ∷ c? (only 35) ∷ tailTable tail
 
 abbrev pub residueOf : List ℕ → Side → Residue
 residueOf l s = record {

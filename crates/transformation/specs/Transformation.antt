@@ -23,6 +23,7 @@ use Rattle.transformation.specs.declared.read.GotScale.{GotScale}
 use Rattle.transformation.specs.declared.read.GotOrigX.{GotOrigX}
 use Rattle.transformation.specs.declared.read.GotMtriX.{GotMtriX}
 
+-- the columns by name, for the records and their rows; the tables have them in numbers
 pub data Field : Type 0 where
   serial a b c d : Field
 
@@ -37,10 +38,10 @@ abbrev pub givenAt : ℕ
 givenAt = 59
 
 abbrev pub transformationTable : List Entry
-transformationTable = r (at a) zeroReal ∷ r (at b) zeroReal ∷ r (at c) zeroReal ∷ r (at d) zeroReal ∷ []
+transformationTable = r (10 ⋯ 20) zeroReal ∷ r (20 ⋯ 30) zeroReal ∷ r (30 ⋯ 40) zeroReal ∷ r (45 ⋯ 55) zeroReal ∷ []
 
 abbrev pub mtrixTable : List Entry
-mtrixTable = u (at serial) ∷ transformationTable ++ Entry.given givenAt ∷ []
+mtrixTable = u (7 ⋯ 10) ∷ transformationTable ++ Entry.given 59 ∷ []
 
 -- whether a real may have an exponent is the option's
 abbrev pub transformationOf : Bool → List ℕ → Transformation

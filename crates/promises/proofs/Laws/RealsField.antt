@@ -1,33 +1,27 @@
--- A real field keeps its promise where it looks as is due: its entry gives a fault exactly where no number is written, and a written number has
--- a double near it.
---     Told, field-told     M is below 10 ^ 10, the field's double is near the written number and one that 64 bits hold, and its count is p
---     plain-exponent, plain-scale    with the option off the exponent is 0, and V is over 2 ^ 82
---     written-or-not       a number is written in the field's columns, or none is
---     field-kept           the promise, over the faults of the field's table
+-- A real field keeps its promise where its text is read as what is written there, and its entry alone can name its columns: the entry gives a
+-- fault exactly where no number is written, and a written number has a double near it.
+--     Reads, decimal-reads, factor-reads    of what is written, what is read: a double near it, that 64 bits hold, with M below 10 ^ 10; or none
+--     Looks                                 what is seen of a field of a line: its text, value and faults
+--     kept                                  so it keeps its promise
+--     Told, told                            and where a number is written, its double is near it
 -- Assumes nothing.
 use Prim.Native.Nat.{ℕ, _-_, _*_, _^_, _≤_, _<_}
-use mathlib.Core.Path.{_≡_, refl, sym, ap, _∙_, subst⁻¹}
-use mathlib.Core.Logic.{_⊎_, inl, inr, ⊎-elim}
+use mathlib.Core.Path.{_≡_, refl, sym, ap, _∙_}
 use mathlib.Core.Bool.{Bool, true, false, cond}
 use mathlib.Core.List.{List, [], _∷_, _++_}
 use native.Mathlib.Omega.{arith}
-use borrow.Author.Tests.{le-ltb, ltb-true, ltb-false, leb-true}
 use lib.ListN.{length, take, drop, length-take}
 use lib.Dec.{T, leb, ltb}
-use lib.IntN.{ℤ, pos, natAbs}
+use lib.IntN.{ℤ, pos}
 use lib.Ieee.{Float, binary64, fits, ofInt}
 use lib.Ieee.Fits.{div-fits}
+use lib.Ieee.Scale.{finite}
 use Rattle.number.specs.Whole.{signedOf}
-use Rattle.number.specs.Decimal.{decimalOf}
-use Rattle.number.specs.Wide.{withoutMark}
 use Rattle.real.specs.Near.{NearOver}
 use Rattle.real.specs.Real.{tenThousandthsFrom, tenThousandthsOf, tenThousandth}
-use Rattle.real.specs.Sign.{below}
-use Rattle.real.specs.Wide.{raised, lowered}
+use Rattle.real.specs.Wide.{raised, lowered, realWith, saidWith, scaleWith}
 use Rattle.number.specs.declared.whole.Signed.{Signed}
 use Rattle.number.specs.declared.whole.Signed.the-variants.{I, NotI}
-use Rattle.number.specs.declared.decimal.Decimal.{Decimal}
-use Rattle.number.specs.declared.decimal.Decimal.the-variants.{Plain, NotPlain}
 use Rattle.number.specs.declared.wide.Wide.{Wide}
 use Rattle.number.specs.declared.wide.Wide.the-variants.{W, NotW}
 use Rattle.real.specs.declared.Real.{Real}
@@ -39,17 +33,12 @@ use Rattle.line.specs.Columns.{partOf}
 use Rattle.line.specs.declared.columns.Columns.{Columns}
 use Rattle.line.specs.declared.fault.FaultKind.the-variants.{Short, Wrong}
 use Rattle.line.specs.declared.fault.Sort.{Sort}
-use Rattle.line.specs.declared.fault.Sort.the-variants.{Signed as ISort, Real as RSort}
-use Rattle.field.specs.Number.{numberFaults, faultAt, isR, orR, placesIn}
-use Rattle.line.specs.Given.{Given}
-use Rattle.field.specs.Table.{Entry, tableFaults}
-use Rattle.field.proofs.Laws.Fields.{part-short, real-none, factor-none}
-use Rattle.promises.specs.Reals.{Form, RealField, namedBy, inTenThousandths, saidBy, scaleBy, Written, Filled, Unwritten, Counts, Kept}
-use Rattle.promises.proofs.Laws.RealsNamed.{none-named, own-named, chosen-named}
-use Rattle.promises.proofs.Laws.RealsTable.{entryAs, readAs, readIn, formAs, narrow, Look, looked, due}
+use Rattle.field.specs.Number.{numberFaults, faultAt, isR, orR}
+use Rattle.promises.specs.Reals.{RealField, namedBy, inTenThousandths, Kept}
+use Rattle.promises.proofs.Laws.RealsNamed.{none-named, own-named}
 
 -- ---- a text
-part-width : (l : List ℕ) (at : Columns) → length (partOf l at) ≤ at .end - at .start
+pub part-width : (l : List ℕ) (at : Columns) → length (partOf l at) ≤ at .end - at .start
 unfolding partOf
 part-width l at = go (ltb (length l) (at .end))
   where
@@ -62,84 +51,40 @@ tenth-held : (z : ℤ) → T (fits binary64 (tenThousandth z))
 unfolding tenThousandth
 tenth-held z = div-fits binary64 (ofInt binary64 z) (ofInt binary64 (pos 10000))
 
--- a text is read as the double v, held by 64 bits, near the written number, whose M is below 10 ^ 10, with the count p
-pub record Told (on : Bool) (form : Form) (s : Bool) (m p : ℕ) (lower : Bool) (x : ℕ) (text : Real) (v : Float) : Type 0 where
-  pub places : ℕ
-  pub is : text ≡ R v places
-  pub counts : Counts (formAs form text) p
-  pub near : NearOver (scaleBy on form) s (m * 10 ^ raised lower x p) (lowered lower x p) v
-  pub held : T (fits binary64 v)
+-- a written number's double, over 2 ^ scale
+pub record Told (scale : ℕ) (s : Bool) (m p : ℕ) (lower : Bool) (x : ℕ) (y : Float) : Type 0 where
+  pub near : NearOver scale s (m * 10 ^ raised lower x p) (lowered lower x p) y
+  pub held : T (fits binary64 y)
   pub few : m < 10 ^ 10
 
-told : (on : Bool) (form : Form) (l : List ℕ) (at : Columns) (s : Bool) (m p : ℕ) (lower : Bool) (x : ℕ) → narrow form at ≡ true
-    → saidBy on form (partOf l at) ≡ W s m p lower x → (v : Float) × Told on form s m p lower x (readAs on form (partOf l at)) v
-told on (Form.decimal places) l at s m p lower x w e =
-    let d = with-said on (partOf l at) e in (
-      d .double,
-      record { places = p; is = d .is; counts = ap placesIn (d .is); near = d .near; held = d .held; few = d .few },
-    )
-told on Form.integer l at s m p lower x w e = go (signedOf text) refl e
+-- what is read of what is written
+abbrev pub Reads : ℕ → Wide → Real → Type 0
+Reads scale (W s m p lower x) text = (y : Float) × (n : ℕ) × (text ≡ R y n) × Told scale s m p lower x y
+Reads scale NotW text = text ≡ NotR
+
+pub decimal-reads : (on : Bool) (t : List ℕ) → Reads (scaleWith on) (saidWith on t) (realWith on t)
+decimal-reads on t = go (saidWith on t) refl
   where
-    text : List ℕ
-    text = partOf l at
+    go : (w : Wide) → saidWith on t ≡ w → Reads (scaleWith on) w (realWith on t)
+    go (W s m p lower x) e = let d = with-said on t e in (d .double, p, d .is, record { near = d .near; held = d .held; few = d .few })
+    go NotW e = with-not on t e
 
-    go : (z : Signed) → signedOf text ≡ z → inTenThousandths z ≡ W s m p lower x
-        → (v : Float) × Told on Form.integer s m p lower x (tenThousandthsOf text) v
-    go NotI said e = absurd (let z : _≡_ {A = ℕ} 0 1 = cc in omega arith)
-    go (I z) said e =
-        let sign : below z ≡ s = cc in
-        let size : natAbs z ≡ m = cc in
-        let four : _≡_ {A = ℕ} 4 p = cc in
-        let low : false ≡ lower = cc in
-        let exponent : _≡_ {A = ℕ} 0 x = cc in
-        let seven : length text ≤ 7 = omega (arith, part-width l at, leb-true (at .end - at .start) 7 w) in
-        let (is, near) = ten-thousandths-near text said seven in (
-          tenThousandth z,
-          record {
-            places = 0;
-            is = is;
-            counts = tt;
-            near = rw (← sign, ← size, ← four, ← low, ← exponent) (plain-over near);
-            held = tenth-held z;
-            few = rw size at (signed-within text said 10 (omega arith));
-          },
-        )
-
-untold : (on : Bool) (form : Form) (text : List ℕ) → saidBy on form text ≡ NotW → readAs on form text ≡ NotR
+pub factor-reads : (t : List ℕ) → length t ≤ 7 → Reads 82 (inTenThousandths (signedOf t)) (tenThousandthsOf t)
 unfolding tenThousandthsOf
-untold on (Form.decimal places) text e = with-not on text e
-untold on Form.integer text e = go (signedOf text) (leb (length text) 7) e
+factor-reads t seven = go (signedOf t) refl
   where
-    go : (z : Signed) (b : Bool) → inTenThousandths z ≡ NotW → cond b (tenThousandthsFrom z) NotR ≡ NotR
-    go NotI true e = refl
-    go NotI false e = refl
-    go (I z) b e = cc
+    none : (b : Bool) → cond b (tenThousandthsFrom NotI) NotR ≡ NotR
+    none true = refl
+    none false = refl
 
--- with the option off the exponent is 0, and V is over 2 ^ 82
-pub plain-scale : (form : Form) → scaleBy false form ≡ 82
-plain-scale (Form.decimal places) = refl
-plain-scale Form.integer = refl
+    go : (z : Signed) → signedOf t ≡ z → Reads 82 (inTenThousandths z) (tenThousandthsOf t)
+    go (I z) said =
+        let (is, near) = ten-thousandths-near t said seven in
+        (tenThousandth z, 0, is, record { near = plain-over near; held = tenth-held z; few = signed-within t said 10 (omega arith) })
+    go NotI said = rw said (none (leb (length t) 7))
 
-pub plain-exponent : (form : Form) (text : List ℕ) {s : Bool} {m p : ℕ} {lower : Bool} {x : ℕ} → saidBy false form text ≡ W s m p lower x
-    → (x ≡ 0) × (lower ≡ false)
-plain-exponent (Form.decimal places) text {s} {m} {p} {lower} {x} e = go (decimalOf text) e
-  where
-    go : (d : Decimal) → withoutMark d NotW ≡ W s m p lower x → (x ≡ 0) × (lower ≡ false)
-    go NotPlain e = absurd (let z : _≡_ {A = ℕ} 0 1 = cc in omega arith)
-    go (Plain r n q) e = (cc, cc)
-plain-exponent Form.integer text {s} {m} {p} {lower} {x} e = go (signedOf text) e
-  where
-    go : (z : Signed) → inTenThousandths z ≡ W s m p lower x → (x ≡ 0) × (lower ≡ false)
-    go NotI e = absurd (let z : _≡_ {A = ℕ} 0 1 = cc in omega arith)
-    go (I z) e = (cc, cc)
-
-none-read : (on : Bool) (form : Form) → readAs on form [] ≡ NotR
-none-read on (Form.decimal places) = real-none on
-none-read on Form.integer = factor-none
-
--- ---- a field
--- a number's entry gives one fault, which names its columns, where the line doesn't reach or the text says no number; else it gives none
-number-named : (l : List ℕ) (at : Columns) (sort : Sort) (fine : Bool)
+-- ---- a number's entry gives one fault, which names its columns, where the line doesn't reach or the text says no number; else it gives none
+pub number-named : (l : List ℕ) (at : Columns) (sort : Sort) (fine : Bool)
     → namedBy at (numberFaults l at sort fine ++ []) ≡ cond (ltb (length l) (at .end)) 1 (cond fine 0 1)
 unfolding numberFaults
 number-named l at sort fine = go (ltb (length l) (at .end)) fine
@@ -150,82 +95,39 @@ number-named l at sort fine = go (ltb (length l) (at .end)) fine
     go false true = none-named at
     go false false = own-named at (Wrong sort)
 
-entry-named : (g : Given) (form : Form) (at : Columns) (default : Float)
-    → namedBy at (tableFaults g (entryAs form at default ∷ []))
-    ≡ cond (ltb (length (g .line)) (at .end)) 1 (cond (isR (readAs (g .options .exponents) form (partOf (g .line) at))) 0 1)
-entry-named g (Form.decimal places) at default =
-    number-named (g .line) at RSort (isR (readAs (g .options .exponents) (Form.decimal places) (partOf (g .line) at)))
-entry-named g Form.integer at default =
-    number-named (g .line) at ISort (isR (readAs (g .options .exponents) Form.integer (partOf (g .line) at)))
+-- ---- a field, with how many faults name its columns
+pub record Looks (f : RealField) (named : ℕ) : Type 0 where
+  -- what its text is read as, and whether the line ends before it
+  pub text : Real
+  pub short : Bool
+  pub none : short ≡ true → text ≡ NotR
+  pub reads : Reads (f .scale) (f .written) text
+  pub value : f .double ≡ orR (f .default) text
+  pub named-is : named ≡ cond short 1 (cond (isR text) 0 1)
+  pub finite-is : finite (f .default) ≡ true
+  -- a double over 2 ^ scale is one over 2 ^ 126
+  pub finer : {s : Bool} {n b : ℕ} {y : Float} → NearOver (f .scale) s n b y → NearOver 126 s n b y
 
--- what isn't read has the count 0
-unread : (form : Form) → Counts (formAs form NotR) 0
-unread (Form.decimal places) = refl
-unread Form.integer = tt
-
--- a number is written, or none is and none is read
-filled-or-not : (on : Bool) (l : List ℕ) (f : RealField) → Filled on l f ⊎ (Unwritten on l f × (readIn on l f ≡ NotR))
-filled-or-not on l f = go (ltb (length l) (f .columns .end)) (saidBy on (f .form) (partOf l (f .columns))) refl refl
-  where
-    go : (b : Bool) (d : Wide) → ltb (length l) (f .columns .end) ≡ b → saidBy on (f .form) (partOf l (f .columns)) ≡ d
-        → Filled on l f ⊎ (Unwritten on l f × (readIn on l f ≡ NotR))
-    go true d e said =
-        inr (
-          λ s m p lower x w. let h = ltb-true (length l) (f .columns .end) e in let k = w .reached in omega arith,
-          rw (part-short l (f .columns) e) (none-read on (f .form)),
-        )
-    go false NotW e said =
-        inr (
-          λ s m p lower x w. let k = w .text in let z : _≡_ {A = ℕ} 0 1 = cc in omega arith,
-          untold on (f .form) (partOf l (f .columns)) said,
-        )
-    go false (W s m p lower x) e said =
-        inl (s, m, p, lower, x, record { reached = ltb-false (length l) (f .columns .end) e; text = said })
-
-pub written-or-not : (on : Bool) (l : List ℕ) (f : RealField) → Filled on l f ⊎ Unwritten on l f
-written-or-not on l f = ⊎-elim (λ w. inl w) (λ n. inr (n .0)) (filled-or-not on l f)
-
-module _ (g : Given) (es : List Entry) (f : RealField) (look : looked es f ≡ due g f) where
-  abbrev on : Bool
-  on = g .options .exponents
-
-  field-named : namedBy (f .columns) (tableFaults g es)
-      ≡ cond (ltb (length (g .line)) (f .columns .end)) 1 (cond (isR (readIn on (g .line) f)) 0 1)
-  field-named =
-      chosen-named (f .columns) g es
-      ∙ ap (λ (x : Look). namedBy (f .columns) (tableFaults g (x .entries))) look
-      ∙ entry-named g (f .form) (f .columns) (f .default)
-
-  field-value : f .value ≡ orR (f .default) (readIn on (g .line) f)
-  field-value = ap (λ (x : Look). x .value) look
-
-  pub field-told : (s : Bool) (m p : ℕ) (lower : Bool) (x : ℕ) → Written on (g .line) f s m p lower x
-      → Told on (f .form) s m p lower x (readIn on (g .line) f) (f .value)
-  field-told s m p lower x w =
-      let (v, d) = told on (f .form) (g .line) (f .columns) s m p lower x (ap (λ (x : Look). x .narrow) look) (w .text) in
-      let same : v ≡ f .value = sym (field-value ∙ ap (orR (f .default)) (d .is)) in
-      rw same at d
-
-  field-counts : (p : ℕ) → Counts (formAs (f .form) (readIn on (g .line) f)) p → Counts (f .form) p
-  field-counts p = subst⁻¹ (λ form. Counts form p) (ap (λ (x : Look). x .form) look)
-
-  field-untold : Unwritten on (g .line) f → readIn on (g .line) f ≡ NotR
-  field-untold lacks =
-      ⊎-elim (λ w. absurd (lacks (w .0) (w .1) (w .2) (w .3) (w .4) (w .5))) (λ n. n .1) (filled-or-not on (g .line) f)
-
-  pub field-kept : Kept on (g .line) (tableFaults g es) f
-  field-kept = record {
-    written = λ s m p lower x w.
-        let d = field-told s m p lower x w in (
-          field-named ∙ rw (le-ltb (length (g .line)) (f .columns .end) (w .reached), d .is) refl,
-          near-written (scaleBy on (f .form)) (d .near),
-          field-counts p (d .counts),
-        );
-    otherwise = λ lacks.
-        let d = field-untold lacks in
-        (field-named ∙ rw d (either (ltb (length (g .line)) (f .columns .end))), field-value ∙ rw d refl, field-counts 0 (rw d (unread (f .form))));
-  }
+module _ (f : RealField) (named : ℕ) (look : Looks f named) where
+  pub kept : Kept (f .written) named f
+  kept = go (f .written) (look .reads)
     where
-      either : (b : Bool) → cond {A = ℕ} b 1 1 ≡ 1
-      either true = refl
-      either false = refl
+      unread : (short : Bool) → cond {A = ℕ} short 1 1 ≡ 1
+      unread true = refl
+      unread false = refl
+
+      read : (short : Bool) (y : Float) (n : ℕ) → (short ≡ true → look .text ≡ NotR) → look .text ≡ R y n → cond {A = ℕ} short 1 0 ≡ 0
+      read false y n none is = refl
+      read true y n none is = absurd (let clash = none refl in let z : _≡_ {A = ℕ} 0 1 = cc in omega arith)
+
+      go : (w : Wide) → Reads (f .scale) w (look .text) → Kept w named f
+      go (W s m p lower x) (y, n, is, d) =
+          let same : y ≡ f .double = sym (look .value ∙ ap (orR (f .default)) is) in
+          (look .named-is ∙ rw is (read (look .short) y n (look .none) is), near-written (f .scale) (rw same at (d .near)))
+      go NotW is = (look .named-is ∙ rw is (unread (look .short)), look .value ∙ ap (orR (f .default)) is)
+
+  pub told : (s : Bool) (m p : ℕ) (lower : Bool) (x : ℕ) → f .written ≡ W s m p lower x → Told (f .scale) s m p lower x (f .double)
+  told s m p lower x e =
+      let reads : Reads (f .scale) (W s m p lower x) (look .text) = rw e at (look .reads) in
+      let same : reads .0 ≡ f .double = sym (look .value ∙ ap (orR (f .default)) (reads .2)) in
+      rw same at (reads .3)

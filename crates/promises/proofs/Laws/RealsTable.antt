@@ -1,85 +1,24 @@
--- The real entries of a table are its real fields, and no other entry there can name a real field's columns: a test that each kind's table passes.
---     entryAs, entryOf     a real field's entry in the table
---     readAs, readIn       what a text says as the double of a form, and the line in a field's columns
---     formAs               the form with the count of what is read
---     Look, looked, due    what is looked at in a real field, and what is due there
---     clear                the test
---     clear-looks          each real field of a table that passes looks as is due
+-- No other entry of a table can name a real entry's columns: a test that each kind's table passes.
+--     clear              the test
+--     real-chosen        of R, in a table that passes: it alone can name its columns, and its default is finite
+--     factor-chosen      of one of ANISOU's six: the same, and its columns are at most seven
 -- Assumes nothing.
 use Prim.Native.Nat.{ℕ, _-_, _<_}
 use mathlib.Core.Path.{_≡_, refl}
 use mathlib.Core.Logic.{_⊎_, inl, inr, ⊎-elim}
 use mathlib.Core.Bool.{Bool, true, false, cond, _&&_}
-use mathlib.Core.List.{List, [], _∷_, List·Memᴰ, List·Memᴰ·head, List·Memᴰ·tail, List·Memᴰ·not-nil, List·Memᴰ·cases-cons}
+use mathlib.Core.List.{List, [], _∷_, List·Memᴰ, List·Memᴰ·not-nil, List·Memᴰ·cases-cons}
 use native.Mathlib.Omega.{arith}
 use borrow.Author.Tests.{eqb-true}
 use lib.ListN.{length}
 use lib.Dec.{leb, eqb}
 use lib.Ieee.{Float}
 use lib.Ieee.Scale.{finite}
-use Rattle.real.specs.Real.{tenThousandthsOf}
-use Rattle.real.specs.Wide.{realWith}
-use Rattle.real.specs.declared.Real.{Real}
 use Rattle.number.proofs.Laws.Choice.{and-left, and-right}
-use Rattle.line.specs.Columns.{partOf}
-use Rattle.line.specs.Given.{Given}
 use Rattle.line.specs.declared.columns.Columns.{Columns}
-use Rattle.field.specs.Number.{realAt, placesAt, placesIn, factorAt, orR, zeroReal}
 use Rattle.field.specs.Table.{Entry}
 use Rattle.field.specs.Table.Entry.{u, i, r, t, c, c?, a, u-rest, x, t-within, t-rest, t-end, charge, known, given, unwritten, triples}
-use Rattle.promises.specs.Reals.{Form, RealField, realBy, realsBy}
 use Rattle.promises.proofs.Laws.RealsNamed.{may, chosen}
-
--- ---- a real field
-abbrev pub entryAs : Form → Columns → Float → Entry
-entryAs (Form.decimal places) columns default = r columns default
-entryAs Form.integer columns default = a columns
-
-abbrev pub entryOf : RealField → Entry
-entryOf f = entryAs (f .form) (f .columns) (f .default)
-
-abbrev pub readAs : Bool → Form → List ℕ → Real
-readAs on (Form.decimal places) text = realWith on text
-readAs on Form.integer text = tenThousandthsOf text
-
--- what the line's text says in the field's columns
-abbrev pub readIn : Bool → List ℕ → RealField → Real
-readIn on l f = readAs on (f .form) (partOf l (f .columns))
-
-abbrev pub formAs : Form → Real → Form
-formAs (Form.decimal places) text = Form.decimal (placesIn text)
-formAs Form.integer text = Form.integer
-
--- an integer's columns are at most seven
-abbrev pub narrow : Form → Columns → Bool
-narrow (Form.decimal places) columns = true
-narrow Form.integer columns = leb (columns .end - columns .start) 7
-
--- the entries that can name the field's columns, its form and value, and whether the columns are narrow and the default finite
-pub record Look : Type 0 where
-  pub entries : List Entry
-  pub form : Form
-  pub value : Float
-  pub narrow : Bool
-  pub finite : Bool
-
-abbrev pub looked : List Entry → RealField → Look
-looked es f = record {
-  entries = chosen (may (f .columns)) es;
-  form = f .form;
-  value = f .value;
-  narrow = narrow (f .form) (f .columns);
-  finite = finite (f .default);
-}
-
-abbrev pub due : Given → RealField → Look
-due g f = record {
-  entries = entryOf f ∷ [];
-  form = formAs (f .form) (readIn (g .options .exponents) (g .line) f);
-  value = orR (f .default) (readIn (g .options .exponents) (g .line) f);
-  narrow = true;
-  finite = true;
-}
 
 -- ---- a table that passes
 -- a real entry alone may name its columns; its default is finite, or its columns are narrow
@@ -139,56 +78,31 @@ module _ (test : Entry → Bool) where
       go false h (inl same) one on = let z : true ≡ false = cc in cc
       go false h (inr later) one on = on later one
 
-module _ (g : Given) (es : List Entry) where
-  real-looks : (at : Columns) (default : Float) → List·Memᴰ (r at default) es → clearOf es (r at default) ≡ true
-      → (let f : RealField =
-      record { columns = at; form = Form.decimal (placesAt (g .options .exponents) (g .line) at); value = realAt (g .options .exponents) (g .line) at default; default = default } in
-      looked es f ≡ due g f)
-  unfolding realAt placesAt
-  real-looks at default m e =
-      let one = and-left (eqb (length (chosen (may at) es)) 1) (may at (r at default) && finite default) e in
-      let rest = and-right (eqb (length (chosen (may at) es)) 1) (may at (r at default) && finite default) e in
-      let only = one-chosen (may at) es (r at default) m (and-left (may at (r at default)) (finite default) rest) (eqb-true _ 1 one) in
-      rw (only, and-right (may at (r at default)) (finite default) rest) refl
+module _ (es : List Entry) (h : clear es ≡ true) where
+  entry-clear : (rest : List Entry) → allClear es rest ≡ true → (e : Entry) → List·Memᴰ e rest → clearOf es e ≡ true
+  entry-clear [] all e m = absurd (List·Memᴰ·not-nil m)
+  entry-clear (y ∷ rest) all e m =
+      ⊎-elim
+      (λ same. rw same (and-left (clearOf es y) (allClear es rest) all))
+      (entry-clear rest (and-right (clearOf es y) (allClear es rest) all) e)
+      (List·Memᴰ·cases-cons m)
 
-  factor-looks : (at : Columns) → List·Memᴰ (a at) es → clearOf es (a at) ≡ true
-      → (let f : RealField = record { columns = at; form = Form.integer; value = factorAt (g .line) at; default = zeroReal } in
-      looked es f ≡ due g f)
-  unfolding factorAt
-  factor-looks at m e =
+  pub real-chosen : (at : Columns) (default : Float) → List·Memᴰ (r at default) es
+      → (chosen (may at) es ≡ r at default ∷ []) × (finite default ≡ true)
+  real-chosen at default m =
+      let e = entry-clear es h (r at default) m in
+      let one = and-left (eqb (length (chosen (may at) es)) 1) (may at (r at default) && finite default) e in
+      let rest = and-right (eqb (length (chosen (may at) es)) 1) (may at (r at default) && finite default) e in (
+        one-chosen (may at) es (r at default) m (and-left (may at (r at default)) (finite default) rest) (eqb-true _ 1 one),
+        and-right (may at (r at default)) (finite default) rest,
+      )
+
+  pub factor-chosen : (at : Columns) → List·Memᴰ (a at) es → (chosen (may at) es ≡ a at ∷ []) × (leb (at .end - at .start) 7 ≡ true)
+  factor-chosen at m =
+      let e = entry-clear es h (a at) m in
       let small = leb (at .end - at .start) 7 in
       let one = and-left (eqb (length (chosen (may at) es)) 1) (may at (a at) && small) e in
-      let rest = and-right (eqb (length (chosen (may at) es)) 1) (may at (a at) && small) e in
-      let only = one-chosen (may at) es (a at) m (and-left (may at (a at)) small rest) (eqb-true _ 1 one) in
-      rw (only, and-right (may at (a at)) small rest) refl
-
-  entry-looks : (e : Entry) → List·Memᴰ e es → clearOf es e ≡ true → (f : RealField) (others : List RealField)
-      → (List·Memᴰ f others → looked es f ≡ due g f) → List·Memᴰ f (realBy g e others) → looked es f ≡ due g f
-  entry-looks (u at) m h f others on k = on k
-  entry-looks (i at) m h f others on k = on k
-  entry-looks (r at default) m h f others on k = ⊎-elim (λ same. rw same (real-looks at default m h)) on (List·Memᴰ·cases-cons k)
-  entry-looks (t at) m h f others on k = on k
-  entry-looks (c at) m h f others on k = on k
-  entry-looks (c? at) m h f others on k = on k
-  entry-looks (a at) m h f others on k = ⊎-elim (λ same. rw same (factor-looks at m h)) on (List·Memᴰ·cases-cons k)
-  entry-looks (u-rest start) m h f others on k = on k
-  entry-looks (x at) m h f others on k = on k
-  entry-looks (t-within at) m h f others on k = on k
-  entry-looks (t-rest start) m h f others on k = on k
-  entry-looks (t-end start) m h f others on k = on k
-  entry-looks (charge at) m h f others on k = on k
-  entry-looks (known at) m h f others on k = on k
-  entry-looks (given column) m h f others on k = on k
-  entry-looks (unwritten column) m h f others on k = on k
-  entry-looks (triples start) m h f others on k = on k
-
-  rest-looks : (rest : List Entry) → ((e : Entry) → List·Memᴰ e rest → List·Memᴰ e es) → allClear es rest ≡ true
-      → (f : RealField) → List·Memᴰ f (realsBy g rest) → looked es f ≡ due g f
-  rest-looks [] within h f k = absurd (List·Memᴰ·not-nil k)
-  rest-looks (e ∷ rest) within h f k =
-      entry-looks e (within e (List·Memᴰ·head refl)) (and-left (clearOf es e) (allClear es rest) h) f (realsBy g rest)
-      (rest-looks rest (λ y m. within y (List·Memᴰ·tail m)) (and-right (clearOf es e) (allClear es rest) h) f)
-      k
-
-pub clear-looks : (g : Given) (es : List Entry) → clear es ≡ true → (f : RealField) → List·Memᴰ f (realsBy g es) → looked es f ≡ due g f
-clear-looks g es h f k = rest-looks g es es (λ e m. m) h f k
+      let rest = and-right (eqb (length (chosen (may at) es)) 1) (may at (a at) && small) e in (
+        one-chosen (may at) es (a at) m (and-left (may at (a at)) small rest) (eqb-true _ 1 one),
+        and-right (may at (a at)) small rest,
+      )
