@@ -8,7 +8,7 @@ trap 'rm -rf "$folder"' EXIT
 kit="io libc os"
 
 # The record families: what `lexitem` stands on, but for the floors below them.
-families=$(sed -n 's/^lexitem: //p' crates.txt | tr ' ' '\n' | grep -vx 'line\|field\|row\|kind')
+families=$(sed -n 's/^lexitem: //p' crates.txt | tr ' ' '\n' | grep -vx 'single\|line\|field\|row\|kind')
 
 # What a crate's files name: `x::` at the begin of a path in the code, `Rattle.x.` and `Rattle·x·` in definitions and proofs. Code that holds the record
 # over all kinds has every family's types in it, code that holds a line's faults the kind's, and code that holds what is known of a file's lines the

@@ -14,3 +14,4 @@ pub mod Unread
 pub mod InRows
 pub mod PutThere
 pub mod Cases
+pub mod Single

@@ -4,3 +4,4 @@ pub mod Face
 pub mod Ask
 pub mod Places
 pub mod One
+pub mod Single

@@ -5,3 +5,4 @@ pub mod Cuts
 pub mod Turn
 pub mod When
 pub mod Stands
+pub mod Single

@@ -7,3 +7,4 @@ pub mod Held
 pub mod Left
 pub mod Step
 pub mod One
+pub mod Single

@@ -12,3 +12,4 @@ pub mod Cell
 pub mod Words
 pub mod Width
 pub mod One
+pub mod Single

@@ -5,3 +5,4 @@ pub mod Either
 pub mod Few
 pub mod Table
 pub mod Quick
+pub mod Single

@@ -5,3 +5,4 @@ pub mod Table
 pub mod Front
 pub mod Name
 pub mod Number
+pub mod Single

@@ -2,3 +2,4 @@
 pub mod Each
 pub mod Places
 pub mod Column
+pub mod Single

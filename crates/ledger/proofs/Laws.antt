@@ -4,3 +4,4 @@ pub mod Steps
 pub mod Rows
 pub mod Counted
 pub mod Short
+pub mod Single

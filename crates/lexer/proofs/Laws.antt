@@ -2,3 +2,4 @@
 pub mod Plain
 pub mod Tests
 pub mod Accepted
+pub mod Single

@@ -4,3 +4,4 @@ pub mod Read
 pub mod Kinds
 pub mod Few
 pub mod Fault
+pub mod Single

@@ -9,3 +9,4 @@ pub mod Longest
 pub mod Given
 pub mod One
 pub mod Cases
+pub mod Single

@@ -7,3 +7,4 @@ pub mod Chain
 pub mod Integers
 pub mod Held
 pub mod Bound
+pub mod Single

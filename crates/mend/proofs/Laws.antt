@@ -12,3 +12,4 @@ pub mod Fields
 pub mod Padded
 pub mod Cases
 pub mod One
+pub mod Single

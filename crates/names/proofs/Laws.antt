@@ -4,3 +4,4 @@ pub mod Words
 pub mod Place
 pub mod Table
 pub mod Names
+pub mod Single

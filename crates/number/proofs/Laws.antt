@@ -14,3 +14,4 @@ pub mod WideGrammar
 pub mod Word
 pub mod Shape
 pub mod Fixed
+pub mod Single

@@ -1,2 +1,3 @@
 -- The laws of the words in specs/.
 pub mod Packed
+pub mod Single

@@ -7,3 +7,4 @@ pub mod Signed
 pub mod Hex
 pub mod Escaped
 pub mod Cases
+pub mod Single

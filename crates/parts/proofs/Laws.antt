@@ -5,3 +5,4 @@ pub mod Turn
 pub mod Turns
 pub mod Parts
 pub mod One
+pub mod Single

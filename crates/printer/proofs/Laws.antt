@@ -1,3 +1,4 @@
 -- The laws of the words in specs/.
 pub mod Sheets
 pub mod Whole
+pub mod Single

@@ -14,4 +14,3 @@ pub mod Sequence
 pub mod Faults
 pub mod Idle
 pub mod Edges
-pub mod One

@@ -12,3 +12,4 @@ pub mod Real
 pub mod Nearest
 pub mod Wide
 pub mod WideReal
+pub mod Single

@@ -1,2 +1,3 @@
 -- What the definitions give at their edges.
 pub mod Cases
+pub mod Single

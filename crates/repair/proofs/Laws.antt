@@ -3,3 +3,4 @@ pub mod Rows
 pub mod Room
 pub mod Repair
 pub mod One
+pub mod Single

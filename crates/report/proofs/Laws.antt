@@ -6,3 +6,4 @@ pub mod Behind
 pub mod Turn
 pub mod Fillings
 pub mod One
+pub mod Single

@@ -5,3 +5,4 @@ pub mod Draft
 pub mod Line
 pub mod One
 pub mod When
+pub mod Single

@@ -3,3 +3,4 @@ pub mod Name
 pub mod Front
 pub mod Count
 pub mod Bits
+pub mod Single

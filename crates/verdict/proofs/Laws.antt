@@ -2,3 +2,4 @@
 pub mod Fewer
 pub mod Short
 pub mod Cuts
+pub mod Single

@@ -5,3 +5,4 @@ pub mod Blocks
 pub mod Pieces
 pub mod Lines
 pub mod Cases
+pub mod Single

@@ -1,2 +1,3 @@
 -- The laws of the words in specs/.
 pub mod Words
+pub mod Single

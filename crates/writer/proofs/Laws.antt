@@ -3,3 +3,4 @@ pub mod Another
 pub mod Counts
 pub mod Shown
 pub mod When
+pub mod Single
