@@ -19,7 +19,7 @@ pub step-one : One its.step.ended (λ M. its.step.clauses)
 step-one w κs a g = equation w (λ u v. refl)
 
 pub following-one : One its.following.ended (λ M. its.following.clauses)
-following-one w κs a g = equation w (λ u v. refl)
+following-one w κs a g = leaves w (λ r s u v e f. (e ∙ sym f, refl))
 
 pub line-at-one : One its.lines.line_at.ended (λ M. its.lines.line_at.clauses)
 line-at-one w κs a g = equation w (λ u v. refl)
