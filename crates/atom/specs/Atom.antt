@@ -12,7 +12,7 @@ use Rattle.field.specs.Table.Entry.{u, i, r, t, c, c?, a}
 use Rattle.field.specs.Text.{textAt, characterAt, optionalAt}
 use Rattle.line.specs.Columns.{_⋯_, only}
 use Rattle.line.specs.Faults.{noFaults}
-use Rattle.line.specs.Given.{Given, alone}
+use Rattle.line.specs.Given.{Given}
 use Rattle.line.specs.declared.columns.Columns.{Columns}
 use Rattle.row.specs.Rows.{_is_}
 use Rattle.row.specs.declared.Row.{Row}

@@ -5,7 +5,7 @@
 -- Columns count from 0, and `a ⋯ b` excludes b. The format counts from 1 and includes both ends: its own numbers stand in the comments, as
 -- `a-b`, with how sure they are. A: the source of a package quotes the format's table for this record, and others agree. B: the code of two
 -- packages uses these columns without quoting. C: from memory.
-use Prim.Native.Nat.{ℕ, suc, _+_}
+use Prim.Native.Nat.{ℕ, _+_}
 use mathlib.Core.List.{List, [], _∷_, _++_, map}
 use Rattle.line.specs.Columns.{_⋯_, inRow}
 use Rattle.line.specs.declared.columns.Columns.{Columns}

@@ -3,9 +3,8 @@
 --     listing-longest     the listing of an accepted line has at most 4,096 bytes
 -- A row is at most as long as its columns allow; SEQADV, whose comment goes to the end of a line of up to 1,024 bytes, has the most room.
 -- Assumes nothing.
-use Prim.Native.Nat.{ℕ, suc, _+_, _*_, _≤_, _<_}
+use Prim.Native.Nat.{ℕ, _+_, _*_, _≤_, _<_}
 use mathlib.Core.Path.{_≡_}
-use mathlib.Core.Bool.{Bool, true, false, cond}
 use mathlib.Core.List.{List, [], _∷_}
 use native.Mathlib.Omega.{arith}
 use lib.ListN.{length, length-append}

@@ -1,7 +1,7 @@
 -- A quotient by a double with its sign turned is the quotient with its sign turned: rounding doesn't look at the sign. So a sign may go with the
 -- divisor.
 -- Assumes nothing.
-use mathlib.Core.Path.{_≡_, refl, sym, _∙_}
+use mathlib.Core.Path.{_≡_, refl}
 use Prim.Native.Nat.{ℕ, zero, suc, _+_, _-_, _*_, _/_, _%_, _^_, compare}
 use mathlib.Core.Bool.{Bool, true, false, not, cond}
 use lib.Dec.{eqb, ltb}

@@ -5,7 +5,7 @@
 --                       and behind them
 -- Assumes nothing.
 use Prim.Native.Nat.{ℕ, zero, suc}
-use mathlib.Core.Path.{_≡_, refl, sym, ap, _∙_}
+use mathlib.Core.Path.{_≡_, sym, ap, _∙_}
 use base.Logic.{ent, emp, id⊢}
 use contract.Monad.{conj, conjL, conjR, fact, factI, fact-use}
 use borrow.Fn.World.{World}
