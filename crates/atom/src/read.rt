@@ -18,52 +18,52 @@ use line::text::{Character, Text};
 use number::word::{eight, five, four, read_word, six};
 
 // What was read, and whether all of its fields are fine.
-#[derive(Drop)]
+#[derive(Clone, Copy)]
 pub struct FineBasics {
     pub value: Basics,
     pub fine: bool,
 }
 
-#[derive(Drop)]
+#[derive(Clone, Copy)]
 pub struct FinePosition {
     pub value: Position,
     pub places: PositionPlaces,
     pub fine: bool,
 }
 
-#[derive(Drop)]
+#[derive(Clone, Copy)]
 pub struct FineAtom {
     pub value: Atom,
     pub fine: bool,
 }
 
 // What was read, beside the list with the faults of its fields.
-#[derive(Drop)]
+#[derive(Clone, Copy)]
 pub struct GotBasics {
     pub value: Basics,
     pub faults: Faults,
 }
 
-#[derive(Drop)]
+#[derive(Clone, Copy)]
 pub struct GotAtom {
     pub value: Atom,
     pub faults: Faults,
 }
 
-#[derive(Drop)]
+#[derive(Clone, Copy)]
 pub struct GotAnisou {
     pub value: Anisou,
     pub faults: Faults,
 }
 
-#[derive(Drop)]
+#[derive(Clone, Copy)]
 pub struct GotPosition {
     pub value: Position,
     pub places: PositionPlaces,
     pub faults: Faults,
 }
 
-#[derive(Drop)]
+#[derive(Clone, Copy)]
 pub struct GotFactors {
     pub value: Factors,
     pub faults: Faults,

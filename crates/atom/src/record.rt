@@ -5,7 +5,7 @@ use line::columns::Columns;
 use line::text::{Character, Text};
 
 // What ATOM, HETATM and ANISOU share.
-#[derive(Drop)]
+#[derive(Clone, Copy)]
 pub struct Basics {
     pub serial: u64,
     pub name: Text,
@@ -70,7 +70,7 @@ impl Basics {
 }
 
 // A position.
-#[derive(Drop)]
+#[derive(Clone, Copy)]
 pub struct Position {
     pub x: f64,
     pub y: f64,
@@ -92,7 +92,7 @@ impl Position {
 }
 
 // How many digits stood behind the point of each coordinate, 0 where it is its default.
-#[derive(Drop)]
+#[derive(Clone, Copy)]
 pub struct PositionPlaces {
     pub x: u8,
     pub y: u8,
@@ -100,7 +100,7 @@ pub struct PositionPlaces {
 }
 
 // The same of each real of an atom.
-#[derive(Drop)]
+#[derive(Clone, Copy)]
 pub struct AtomPlaces {
     pub position: PositionPlaces,
     pub occupancy: u8,
@@ -108,7 +108,7 @@ pub struct AtomPlaces {
 }
 
 // An ATOM, or a HETATM if hetero.
-#[derive(Drop)]
+#[derive(Clone, Copy)]
 pub struct Atom {
     pub hetero: bool,
     pub basics: Basics,
@@ -147,7 +147,7 @@ impl Atom {
 }
 
 // The six different ones of the nine temperature factors.
-#[derive(Drop)]
+#[derive(Clone, Copy)]
 pub struct Factors {
     pub u11: f64,
     pub u22: f64,
@@ -185,7 +185,7 @@ impl Factors {
 }
 
 // An ANISOU.
-#[derive(Drop)]
+#[derive(Clone, Copy)]
 pub struct Anisou {
     pub basics: Basics,
     pub factors: Factors,

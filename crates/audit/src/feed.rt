@@ -11,7 +11,7 @@ use carry::keep::{MOST_KEPT, absorb};
 use walker::following;
 
 // What is known behind a part, and what is held of an unfinished line.
-#[derive(Drop)]
+#[derive(Clone, Copy)]
 pub struct Watched {
     pub held: Held,
     pub watch: Watch,

@@ -1,6 +1,7 @@
 // `check_master`: a whole lent file held against its MASTER record, line by line. What was counted and what MASTER says are handed out together; in
 // `found` they are one list of words, with a bit for each number that differs. In `watch` is what is known after some lines, and `feed` takes a
 // file in parts.
+#![tactic(auto)]
 ghost use Rattle.std.specs.Prelude.{◌≡◌};
 ghost use Rattle.audit.specs.Audit.{checked};
 
@@ -16,21 +17,21 @@ use master::record::Master;
 use tally::Tally;
 
 // What a MASTER line says, if it can be read.
-#[derive(Drop)]
+#[derive(Clone, Copy)]
 pub enum Said {
     Numbers(Master),
     Unread,
 }
 
 // What was counted in a file, and what its MASTER says.
-#[derive(Drop)]
+#[derive(Clone, Copy)]
 pub struct Compared {
     pub counted: Tally,
     pub said: Master,
 }
 
 // What the checker answers: both counts, or a refusal by document 02's number, with its place and length in the file.
-#[derive(Drop)]
+#[derive(Clone, Copy)]
 pub enum Checked {
     Compared(Compared),
     Refused(Refusal),

@@ -10,7 +10,7 @@ use tally::Tally;
 
 // The MASTER lines so far: none; one that can't be read, with its place and length; the numbers of one; or more than one, with the second's place
 // and length.
-#[derive(Drop)]
+#[derive(Clone, Copy)]
 pub enum Masters {
     Missing,
     Unread { start: usize, length: usize },
@@ -19,7 +19,7 @@ pub enum Masters {
 }
 
 // The place behind the lines so far, what was counted in them, and their MASTER lines. A place stops at 2^64-1, and no file has so many bytes.
-#[derive(Drop)]
+#[derive(Clone, Copy)]
 pub struct Watch {
     pub at: usize,
     pub counted: Tally,

@@ -3,7 +3,7 @@ ghost use Rattle.std.specs.Prelude.{◌≡◌};
 ghost use Rattle.carry.specs.Held as specs;
 
 // How many bytes of a line came, whether the last one is a CR, and the line's number.
-#[derive(Drop)]
+#[derive(Clone, Copy)]
 pub struct Held {
     pub total: usize,
     pub cr: bool,

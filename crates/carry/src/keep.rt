@@ -24,7 +24,7 @@ fn keep_byte(kept: &mut [u8; 1024], total: usize, b: u8) -> usize
 }
 
 // What is held at an offset of a part.
-#[derive(Drop)]
+#[derive(Clone, Copy)]
 pub struct Absorbed {
     pub held: Held,
     pub at: usize,

@@ -1,5 +1,7 @@
 // Lines of an input that comes in parts: what is held over of an unfinished one, and where the whole ones end. What is done with the lines is
 // left to others.
+#![tactic(auto)]
+
 ghost use Rattle.std.specs.Prelude.{◌≡◌, ◌+◌, drop};
 ghost use Rattle.carry.specs.Whole as specs;
 

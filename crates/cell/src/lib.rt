@@ -1,4 +1,5 @@
 // A number in so many columns of a line that is written. What doesn't fit puts blanks and is told, so that every cell fills its columns.
+#![tactic(auto)]
 ghost use Rattle.std.specs.Prelude.{◌≤◌, ◌<◌, ◌^◌};
 ghost use Rattle.cell.specs.Cell as specs;
 ghost use Rattle.cell.specs.Places.{places_of};
@@ -15,7 +16,7 @@ use crate::places::{Places, round_to};
 use crate::text::{put_blanks, put_fixed, put_right};
 
 // The place behind what was put, and whether it fits.
-#[derive(Drop)]
+#[derive(Clone, Copy)]
 pub struct Put {
     pub next: usize,
     pub fits: bool,

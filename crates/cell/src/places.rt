@@ -6,7 +6,7 @@ ghost use Rattle.cell.specs.Places as specs;
 use crate::power::raised;
 
 // The digits of a decimal and its sign. More than ten digits fit no column, and a NaN or an infinity has none.
-#[derive(Drop)]
+#[derive(Clone, Copy)]
 pub enum Places {
     Rounded { minus: bool, digits: u64 },
     NoFit,

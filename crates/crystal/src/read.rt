@@ -9,13 +9,13 @@ use field::number_field::{GotUnsigned, real, unsigned_from};
 use field::text_field::text_within;
 use line::fault::Faults;
 
-#[derive(Drop)]
+#[derive(Clone, Copy)]
 pub struct GotCrystal {
     pub value: Crystal,
     pub faults: Faults,
 }
 
-#[derive(Drop)]
+#[derive(Clone, Copy)]
 pub struct GotCell {
     pub value: Cell,
     pub places: CellPlaces,

@@ -5,7 +5,7 @@ use line::columns::Columns;
 use line::text::Text;
 
 // The lengths and angles of a unit cell.
-#[derive(Drop)]
+#[derive(Clone, Copy)]
 pub struct Cell {
     pub a: f64,
     pub b: f64,
@@ -43,7 +43,7 @@ impl Cell {
 }
 
 // How many digits stood behind the point of each, 0 where it is its default.
-#[derive(Drop)]
+#[derive(Clone, Copy)]
 pub struct CellPlaces {
     pub a: u8,
     pub b: u8,
@@ -54,7 +54,7 @@ pub struct CellPlaces {
 }
 
 // A CRYST1.
-#[derive(Drop)]
+#[derive(Clone, Copy)]
 pub struct Crystal {
     pub cell: Cell,
     pub places: CellPlaces,

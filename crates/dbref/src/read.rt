@@ -10,25 +10,25 @@ use line::columns::Columns;
 use line::fault::Faults;
 use line::options::Mode;
 
-#[derive(Drop)]
+#[derive(Clone, Copy)]
 pub struct GotDbref {
     pub value: Dbref,
     pub faults: Faults,
 }
 
-#[derive(Drop)]
+#[derive(Clone, Copy)]
 pub struct GotDbref1 {
     pub value: Dbref1,
     pub faults: Faults,
 }
 
-#[derive(Drop)]
+#[derive(Clone, Copy)]
 pub struct GotDbref2 {
     pub value: Dbref2,
     pub faults: Faults,
 }
 
-#[derive(Drop)]
+#[derive(Clone, Copy)]
 pub struct GotSegment {
     pub value: Segment,
     pub faults: Faults,

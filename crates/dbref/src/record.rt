@@ -7,7 +7,7 @@ use line::options::Mode;
 use line::text::{Character, Text};
 
 // Where a stretch of a sequence begins and ends. The characters are insertion codes.
-#[derive(Drop)]
+#[derive(Clone, Copy)]
 pub struct Segment {
     pub begin: i64,
     pub opening: Character,
@@ -29,7 +29,7 @@ impl Segment {
 }
 
 // A DBREF.
-#[derive(Drop)]
+#[derive(Clone, Copy)]
 pub struct Dbref {
     pub code: Text,
     pub chain: Text,
@@ -91,7 +91,7 @@ impl Dbref {
 }
 
 // A DBREF1 and the mode by which it was read: in crate mode the number of its segment's end begins a column later than a DBREF's.
-#[derive(Drop)]
+#[derive(Clone, Copy)]
 pub struct Dbref1 {
     pub code: Text,
     pub chain: Text,
@@ -138,7 +138,7 @@ impl Dbref1 {
 }
 
 // A DBREF2.
-#[derive(Drop)]
+#[derive(Clone, Copy)]
 pub struct Dbref2 {
     pub code: Text,
     pub chain: Text,

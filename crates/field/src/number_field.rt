@@ -12,13 +12,13 @@ use real::wide::read_exponent;
 use real::{Real, read_real, read_ten_thousandths};
 
 // A field's value, and whether the field is fine: no fault is noted of it.
-#[derive(Drop)]
+#[derive(Clone, Copy)]
 pub struct FineUnsigned {
     pub value: u64,
     pub fine: bool,
 }
 
-#[derive(Drop)]
+#[derive(Clone, Copy)]
 pub struct FineSigned {
     pub value: i64,
     pub fine: bool,
@@ -26,7 +26,7 @@ pub struct FineSigned {
 
 // A real's value and its places, which are 255 where the field isn't fine, so that no flag is handed back beside them: it would be stored
 // and loaded for each real.
-#[derive(Drop)]
+#[derive(Clone, Copy)]
 pub struct FineReal {
     pub value: f64,
     pub places: u8,
@@ -43,26 +43,26 @@ impl FineReal {
 }
 
 // A field's value beside the list with the field's fault, if it has one. A real's places are 0 where it is its default.
-#[derive(Drop)]
+#[derive(Clone, Copy)]
 pub struct GotUnsigned {
     pub value: u64,
     pub faults: Faults,
 }
 
-#[derive(Drop)]
+#[derive(Clone, Copy)]
 pub struct GotSigned {
     pub value: i64,
     pub faults: Faults,
 }
 
-#[derive(Drop)]
+#[derive(Clone, Copy)]
 pub struct GotReal {
     pub value: f64,
     pub places: u8,
     pub faults: Faults,
 }
 
-#[derive(Drop)]
+#[derive(Clone, Copy)]
 pub struct GotFactor {
     pub value: f64,
     pub faults: Faults,

@@ -10,26 +10,26 @@ use line::text::{Character, Text};
 use number::trim::{kept_length, read_text};
 
 // A field's value, and whether the field is fine.
-#[derive(Drop)]
+#[derive(Clone, Copy)]
 pub struct FineText {
     pub value: Text,
     pub fine: bool,
 }
 
-#[derive(Drop)]
+#[derive(Clone, Copy)]
 pub struct FineCharacter {
     pub value: Character,
     pub fine: bool,
 }
 
 // A field's value beside the list with the field's fault, if it has one.
-#[derive(Drop)]
+#[derive(Clone, Copy)]
 pub struct GotText {
     pub value: Text,
     pub faults: Faults,
 }
 
-#[derive(Drop)]
+#[derive(Clone, Copy)]
 pub struct GotCharacter {
     pub value: Character,
     pub faults: Faults,

@@ -8,7 +8,7 @@ use line::columns::Columns;
 use line::fault::Faults;
 use line::text::Text;
 
-#[derive(Drop)]
+#[derive(Clone, Copy)]
 pub struct GotHeader {
     pub value: Header,
     pub faults: Faults,

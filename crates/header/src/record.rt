@@ -5,7 +5,7 @@ use line::columns::Columns;
 use line::text::Text;
 
 // A HEADER: its texts stand as they are.
-#[derive(Drop)]
+#[derive(Clone, Copy)]
 pub struct Header {
     pub classification: Text,
     pub date: Text,

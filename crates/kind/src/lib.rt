@@ -1,4 +1,6 @@
 // Which kind a line is, by its first bytes, and the name of a kind. A name is looked up as one number, its bytes being the digits.
+#![tactic(auto)]
+
 ghost use Rattle.std.specs.Prelude.{◌≡◌, ◌≤◌, ◌&&◌, [], ◌∷◌, eqb, length, take};
 ghost use Rattle.kind.specs.Key.{key_of, kind_by_key, four_of, two_of};
 ghost use Rattle.kind.specs.Kind as specs;
@@ -9,7 +11,7 @@ pub mod name;
 pub mod numbered;
 
 // SCALEn, ORIGXn and MTRIXn carry their row, n less one.
-#[derive(Drop)]
+#[derive(Clone, Copy)]
 pub enum Kind {
     Empty,
     Header,

@@ -5,7 +5,7 @@ ghost use Rattle.kind.specs.Name.{six_of, name_of, row_name};
 use crate::Kind;
 
 // Six bytes and how many of them are the name.
-#[derive(Drop)]
+#[derive(Clone, Copy)]
 pub struct Name {
     pub text: [u8; 6],
     pub length: usize,

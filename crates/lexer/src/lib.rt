@@ -1,5 +1,6 @@
 // What is asked of a line: `kind_line` its kind, `lex_line` its record and its faults, `read_line_as` the same as one of a kind. A line's refusals
 // come in document 01's order of testing.
+#![tactic(auto)]
 ghost use Rattle.std.specs.Prelude.{◌≡◌, ◌≤◌, ltb, length};
 ghost use Rattle.lexer.specs.Refusals as specs;
 ghost use Rattle.lexer.specs.Lexed.{lexed, lexed_as, kind_asked};
@@ -188,7 +189,7 @@ fn read_as(line: &[u8], number: usize, kind: Kind, options: Options, remarks: &[
 }
 
 // What asking for the kind of a line answers.
-#[derive(Drop)]
+#[derive(Clone, Copy)]
 pub enum Asked {
     Is(Kind),
     Refused(Refusal),

@@ -5,7 +5,7 @@ use crate::fault::LineFaults;
 use crate::item::LexItem;
 
 // A refusal by document 01's number, with its place and length.
-#[derive(Drop)]
+#[derive(Clone, Copy)]
 pub struct Refusal {
     pub number: usize,
     pub place: usize,
@@ -24,14 +24,14 @@ impl Refusal {
     }
 }
 
-#[derive(Drop)]
+#[derive(Clone, Copy)]
 pub enum Outcome {
     Accepted(LexItem),
     Refused(Refusal),
 }
 
 // The line's number is handed through. A refusal stands beside an empty list of faults.
-#[derive(Drop)]
+#[derive(Clone, Copy)]
 pub struct Answer {
     pub line: usize,
     pub outcome: Outcome,

@@ -9,7 +9,7 @@ use seqadv::record::Seqadv;
 use ssbond::record::SSBond;
 
 // HEADER asks for all of its columns, REMARK for not too many, some kinds for a least length, the rest for nothing.
-#[derive(Drop)]
+#[derive(Clone, Copy)]
 pub enum Bound {
     Header,
     Remark,

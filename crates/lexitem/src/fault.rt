@@ -6,7 +6,7 @@ ghost use Rattle.lexitem.specs.Fault as specs;
 use kind::Kind;
 use line::fault::{Fault, FaultKind, Faults};
 
-#[derive(Drop)]
+#[derive(Clone, Copy)]
 pub struct LineFault {
     // As it was handed in with the line.
     pub line: usize,
@@ -25,7 +25,7 @@ fn picked(list: [Fault; Faults::MOST], n: usize) -> Fault
 }
 
 // The first `count` of the list, in their order, each of this line and kind. Both stand here once, since a line's faults have them in common.
-#[derive(Drop)]
+#[derive(Clone, Copy)]
 pub struct LineFaults {
     pub line: usize,
     pub kind: Kind,

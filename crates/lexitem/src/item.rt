@@ -30,7 +30,7 @@ use ssbond::rows::ssbond_rows;
 use transformation::record::{MtriX, OrigX, Scale};
 use transformation::rows::{mtrix_rows, origx_rows, scale_rows};
 
-#[derive(Drop)]
+#[derive(Clone, Copy)]
 pub enum LexItem {
     Empty,
     Header(Header),

@@ -20,7 +20,7 @@ use ssbond::read::{GotSSBond, lex_ssbond};
 use transformation::read::{GotMtriX, GotOrigX, GotScale, lex_mtrix, lex_origx, lex_scale};
 
 // A record with the faults of its line.
-#[derive(Drop)]
+#[derive(Clone, Copy)]
 pub struct GotItem {
     pub value: LexItem,
     pub faults: Faults,

@@ -3,14 +3,14 @@ ghost use Rattle.std.specs.Prelude.{◌≡◌};
 ghost use Rattle.line.specs.Faults.{number_of, no_faults, noted};
 
 // The sort of number that the columns should have held.
-#[derive(Drop)]
+#[derive(Clone, Copy)]
 pub enum Sort {
     Unsigned,
     Signed,
     Real,
 }
 
-#[derive(Drop)]
+#[derive(Clone, Copy)]
 pub enum FaultKind {
     // The line ends before the field's last column.
     Short,
@@ -40,7 +40,7 @@ impl FaultKind {
 }
 
 // Place and length are the field's columns. Lines that are read have at most 1,024 bytes, so 16 bits hold both.
-#[derive(Drop)]
+#[derive(Clone, Copy)]
 pub struct Fault {
     pub kind: FaultKind,
     pub place: u16,
@@ -60,7 +60,7 @@ impl Fault {
 }
 
 // The faults noted: the first `count` of the list, in their order.
-#[derive(Drop)]
+#[derive(Clone, Copy)]
 pub struct Faults {
     pub list: [Fault; Faults::MOST],
     pub count: usize,

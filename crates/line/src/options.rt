@@ -2,14 +2,14 @@
 
 // Crate mode reads as lexer.rs does. wwPDB mode reads as the standard prints it, where three rules differ: the end of a DBREF1, the serial of
 // a MODEL, and an ENDMDL of six bytes.
-#[derive(Drop)]
+#[derive(Clone, Copy)]
 pub enum Mode {
     Crate,
     WwPdb,
 }
 
 // Atoms only makes every kind EMPTY but ATOM, HETATM, MODEL, ENDMDL, TER and END. Loose lets long remarks pass. Exponents lets a real have one.
-#[derive(Drop)]
+#[derive(Clone, Copy)]
 pub struct Options {
     pub atoms: bool,
     pub loose: bool,

@@ -3,7 +3,7 @@ ghost use Rattle.std.specs.Prelude.{◌≡◌};
 ghost use Rattle.line.specs.Text.{view_of, within_of};
 
 // A text: where it begins in the line and how many bytes it has. An empty one has place 0, length 0.
-#[derive(Drop)]
+#[derive(Clone, Copy)]
 pub struct Text {
     pub place: usize,
     pub length: usize,
@@ -18,7 +18,7 @@ impl Text {
 }
 
 // One character: at a place of the line, in a column that the line doesn't reach, or absent.
-#[derive(Drop)]
+#[derive(Clone, Copy)]
 pub enum Character {
     At(usize),
     Unreached,
@@ -26,7 +26,7 @@ pub enum Character {
 }
 
 // A field that can be viewed.
-#[derive(Drop)]
+#[derive(Clone, Copy)]
 pub enum Field {
     Words(Text),
     One(Character),

@@ -1,5 +1,6 @@
 // `list_line`: a line's listing into lent bytes. One emitter puts it, once on a byte of its own to measure it, and
 // then, if it fits, on the lent bytes. So lent bytes that are too few stay as they are.
+#![tactic(auto)]
 ghost use Rattle.std.specs.Prelude.{◌≡◌, ◌≤◌, length, take};
 ghost use Rattle.listing.specs.Listed as into;
 ghost use Rattle.listing.specs.Listing as specs;
@@ -61,7 +62,7 @@ fn put_listing(
 }
 
 // What listing a line answers: how many bytes it wrote at the front of the lent ones, or why it wrote none.
-#[derive(Drop)]
+#[derive(Clone, Copy)]
 pub enum Listed {
     Written(usize),
     Refused(Refusal),

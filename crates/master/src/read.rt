@@ -7,7 +7,7 @@ use crate::record::Master;
 use field::number_field::unsigned;
 use line::fault::Faults;
 
-#[derive(Drop)]
+#[derive(Clone, Copy)]
 pub struct GotMaster {
     pub value: Master,
     pub faults: Faults,

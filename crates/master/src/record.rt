@@ -4,7 +4,7 @@ ghost use Rattle.std.specs.Prelude.{◌≡◌};
 use line::columns::Columns;
 
 // A MASTER: twelve counts.
-#[derive(Drop)]
+#[derive(Clone, Copy)]
 pub struct Master {
     pub remark: u64,
     pub empty: u64,

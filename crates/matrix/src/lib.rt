@@ -1,5 +1,6 @@
 // Rows put to use: those of SCALE, ORIGX or MTRIX are collected by their numbers, and the matrix that three of them make is applied to a position.
 // Kinds and serials aren't told apart: who collects chooses which rows are handed in.
+#![tactic(auto)]
 ghost use Rattle.std.specs.Prelude.{◌≡◌};
 ghost use Rattle.matrix.specs.Apply as apply;
 ghost use Rattle.matrix.specs.Rows as specs;
@@ -8,14 +9,14 @@ use atom::record::Position;
 use transformation::record::Transformation;
 
 // A row that may be set.
-#[derive(Drop)]
+#[derive(Clone, Copy)]
 pub enum Slot {
     Set(Transformation),
     Unset,
 }
 
 // What was collected so far.
-#[derive(Drop)]
+#[derive(Clone, Copy)]
 pub struct Rows {
     pub first: Slot,
     pub second: Slot,
@@ -23,7 +24,7 @@ pub struct Rows {
 }
 
 // Three rows that are set.
-#[derive(Drop)]
+#[derive(Clone, Copy)]
 pub struct Matrix {
     pub first: Transformation,
     pub second: Transformation,
@@ -31,14 +32,14 @@ pub struct Matrix {
 }
 
 // The rows with one more, or as they were, since a matrix has no row of that number.
-#[derive(Drop)]
+#[derive(Clone, Copy)]
 pub enum Collected {
     Kept(Rows),
     NoSuchRow(Rows),
 }
 
 // The matrix, or none, since a row is unset.
-#[derive(Drop)]
+#[derive(Clone, Copy)]
 pub enum Handed {
     Whole(Matrix),
     RowUnset,

@@ -19,7 +19,7 @@ fn put_change(changes: &mut [u64], count: usize, what: u64, at: usize, n: usize)
 }
 
 // A run of bytes of 128 or more: how many changes were noted before it, and how many bytes it has.
-#[derive(Drop)]
+#[derive(Clone, Copy)]
 struct Run {
     count: usize,
     n: usize,

@@ -1,5 +1,6 @@
 // Mending a line: bytes of 128 or more are made `?`, and a short ATOM or HETATM is padded with blanks to 80 if none of its fields is cut. What was
 // changed comes beside it.
+#![tactic(auto)]
 ghost use Rattle.std.specs.Prelude.{◌≡◌, ◌+◌, ◌≤◌, length, replicate};
 ghost use Rattle.std.proofs.lemmas.List.Edits.{sets};
 ghost use Rattle.mend.specs.Mending as specs;
@@ -71,7 +72,7 @@ pub fn refusal_of(line: &[u8], room: usize) -> Refusal
 }
 
 // What mending answers: the length of the mended line and how many changes there are, or why nothing was done.
-#[derive(Drop)]
+#[derive(Clone, Copy)]
 pub enum Mended {
     Done(usize, usize),
     Refused(Refusal),

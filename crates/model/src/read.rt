@@ -8,7 +8,7 @@ use field::number_field::{GotUnsigned, unsigned, unsigned_from};
 use line::fault::Faults;
 use line::options::Mode;
 
-#[derive(Drop)]
+#[derive(Clone, Copy)]
 pub struct GotModel {
     pub value: Model,
     pub faults: Faults,

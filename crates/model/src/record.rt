@@ -6,7 +6,7 @@ use line::columns::Columns;
 use line::options::Mode;
 
 // A MODEL and the mode by which it was read: in crate mode its number stands from a column to the end of the line.
-#[derive(Drop)]
+#[derive(Clone, Copy)]
 pub struct Model {
     pub number: u64,
     pub mode: Mode,

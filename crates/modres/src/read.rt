@@ -8,7 +8,7 @@ use field::number_field::signed;
 use field::text_field::{character, optional, text, text_from};
 use line::fault::Faults;
 
-#[derive(Drop)]
+#[derive(Clone, Copy)]
 pub struct GotModres {
     pub value: Modres,
     pub faults: Faults,

@@ -5,7 +5,7 @@ use line::columns::Columns;
 use line::text::{Character, Text};
 
 // A MODRES.
-#[derive(Drop)]
+#[derive(Clone, Copy)]
 pub struct Modres {
     pub code: Text,
     pub residue: Text,

@@ -6,7 +6,7 @@ ghost use Rattle.number.specs.Decimal.{plain_of, decimal_of};
 use crate::trim::trim;
 use crate::whole::{after_sign, begins, read_run};
 
-#[derive(Drop)]
+#[derive(Clone, Copy)]
 pub enum Decimal {
     Plain {
         minus: bool,

@@ -62,7 +62,7 @@ pub fn trim(text: &[u8]) -> &[u8]
 }
 
 // Where a trimmed text lies in the text.
-#[derive(Drop)]
+#[derive(Clone, Copy)]
 pub struct Span {
     pub place: usize,
     pub length: usize,

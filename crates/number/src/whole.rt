@@ -6,20 +6,20 @@ ghost use Rattle.number.specs.Whole as specs;
 
 use crate::trim::trim;
 
-#[derive(Drop)]
+#[derive(Clone, Copy)]
 pub enum Unsigned {
     U(u64),
     NotU,
 }
 
-#[derive(Drop)]
+#[derive(Clone, Copy)]
 pub enum Signed {
     I(i64),
     NotI,
 }
 
 // Digits at the front of a text: the number once they are read, and how many there are.
-#[derive(Drop)]
+#[derive(Clone, Copy)]
 pub struct Run {
     pub value: u64,
     pub count: usize,

@@ -7,7 +7,7 @@ use crate::decimal::{Decimal, read_plain};
 use crate::trim::trim;
 use crate::whole::{Unsigned, after_sign, begins, read_digits};
 
-#[derive(Drop)]
+#[derive(Clone, Copy)]
 pub enum Wide {
     W {
         minus: bool,

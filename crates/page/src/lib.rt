@@ -1,6 +1,8 @@
 // Putting bytes, numbers and escaped text into lent bytes. Each function takes the lent bytes and the place of the
 // next byte, and hands back the place behind what it put. It asks nothing of its caller: a byte past the end is
 // counted and not written, and the count stops at 2^64-1.
+#![tactic(auto)]
+
 ghost use Rattle.std.specs.Prelude.{◌≡◌, [], ◌∷◌, ◌<◌, nat_abs};
 ghost use Rattle.std.specs.Float.{binary64};
 ghost use Rattle.std.specs.Float.Ieee.{to_bits};

@@ -1,6 +1,7 @@
 // Cuts the two files of its folder `data`, the short one at every two places, the same one and both ends among them, and the long one at every
 // one; feeds the parts, and holds what is put for them against what is put for the whole. It prints what is put for the whole, how many ways of
 // cutting there were, and for how many of them something else was put. The file `stdout` was worked out apart from this program.
+#![tactic(auto)]
 ghost use Rattle.std.specs.Prelude.{◌≤◌, length};
 
 use carry::held::Held;
@@ -8,7 +9,7 @@ use libc::STDOUT_FILENO;
 use parts::{feed, finish};
 
 // What is held behind a part, and how many bytes are put.
-#[derive(Drop)]
+#[derive(Clone, Copy)]
 pub struct Put {
     pub held: Held,
     pub n: usize,
@@ -90,7 +91,7 @@ fn same(a: &[u8], b: &[u8], n: usize) -> bool {
 }
 
 // How many ways of cutting there were, and for how many of them something else was put.
-#[derive(Drop)]
+#[derive(Clone, Copy)]
 pub struct Tried {
     pub ways: u32,
     pub others: u32,

@@ -1,4 +1,5 @@
 // Lists the lines of standard input.
+#![tactic(auto)]
 use stream::list_input;
 
 fn main() {

@@ -3,7 +3,7 @@ ghost use Rattle.std.specs.Prelude.{◌≡◌, ◌≤◌, length, drop};
 ghost use Rattle.pdbmend.specs.Held as specs;
 
 // How many bytes are kept, whether bytes before them went on already because the line has too many, and the line's number.
-#[derive(Drop)]
+#[derive(Clone, Copy)]
 pub struct Held {
     pub n: usize,
     pub over: bool,
@@ -24,7 +24,7 @@ impl Held {
 }
 
 // How many bytes are kept at an offset of a part.
-#[derive(Drop)]
+#[derive(Clone, Copy)]
 pub struct Absorbed {
     pub n: usize,
     pub at: usize,

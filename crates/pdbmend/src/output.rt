@@ -16,7 +16,7 @@ fn hand_over(text: &[u8], rows: &[u8]) -> bool {
 }
 
 // What is held behind a part; or that something couldn't be written.
-#[derive(Drop)]
+#[derive(Clone, Copy)]
 pub enum Went {
     On(Held),
     Failed,

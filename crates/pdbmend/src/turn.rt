@@ -43,7 +43,7 @@ fn put_ended(held: Held, kept: &[u8], out: &mut [u8], rows: &mut [u8]) -> Repair
 }
 
 // What is held, the offset of the first byte of the part that wasn't taken, and how many bytes were put for each of the two outputs.
-#[derive(Drop)]
+#[derive(Clone, Copy)]
 pub struct Turned {
     pub held: Held,
     pub at: usize,

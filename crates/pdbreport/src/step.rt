@@ -8,7 +8,7 @@ use carry::keep::absorb;
 use walker::following;
 
 // What is held at an offset of a part; or that something couldn't be written.
-#[derive(Drop)]
+#[derive(Clone, Copy)]
 pub enum Went {
     On { held: Held, at: usize },
     Failed,
@@ -41,7 +41,7 @@ pub fn step(
 }
 
 // What is held behind a part; or that something couldn't be written.
-#[derive(Drop)]
+#[derive(Clone, Copy)]
 pub enum Took {
     All(Held),
     Failed,

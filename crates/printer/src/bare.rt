@@ -21,7 +21,7 @@ pub fn write_model(number: u64, out: &mut [u8]) -> Written
 }
 
 // The lines that are a name and blanks.
-#[derive(Drop)]
+#[derive(Clone, Copy)]
 pub enum Bare {
     Ter,
     Endmdl,

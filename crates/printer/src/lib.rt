@@ -1,4 +1,5 @@
 // The lines that are written, one function for each family of records, over numbers and lent texts.
+#![tactic(auto)]
 pub mod atoms;
 pub mod bare;
 mod places;

@@ -1,5 +1,7 @@
 // The doubles of written numbers: one division by a power of ten, and the sign put on. A power is multiplied out
 // as a whole number and converted once. Those of p up to 9 are exact as doubles, so the quotient is rounded once.
+#![tactic(auto)]
+
 ghost use Rattle.std.specs.Prelude.{◌≡◌, ◌≤◌, ◌<◌, ◌^◌, pos, nat_abs};
 ghost use Rattle.std.specs.Float.{binary64};
 ghost use Rattle.std.specs.Float.Ieee.{of_int};
@@ -13,7 +15,7 @@ use number::whole::{Signed, read_signed};
 use number::word::{MINUS, NONE, eight, read_word, six};
 
 // A double, and how many digits stood behind the point. An integer has none there.
-#[derive(Drop)]
+#[derive(Clone, Copy)]
 pub enum Real {
     R(f64, u8),
     NotR,

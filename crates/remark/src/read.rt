@@ -9,7 +9,7 @@ use field::remark::known;
 use field::text_field::end_text_from;
 use line::fault::Faults;
 
-#[derive(Drop)]
+#[derive(Clone, Copy)]
 pub struct GotRemark {
     pub value: Remark,
     pub faults: Faults,

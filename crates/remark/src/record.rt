@@ -5,7 +5,7 @@ use line::columns::Columns;
 use line::text::Text;
 
 // A REMARK: its number, and its text with the end trimmed.
-#[derive(Drop)]
+#[derive(Clone, Copy)]
 pub struct Remark {
     pub number: u64,
     pub text: Text,

@@ -1,4 +1,5 @@
 // What `pdbmend` makes of a line: the line as it goes on, and a row for each change, or for why the line is left as it is.
+#![tactic(auto)]
 ghost use Rattle.std.specs.Prelude.{◌≡◌, ◌≤◌, length};
 ghost use Rattle.page.specs.Page.{page, put};
 ghost use Rattle.repair.specs.Repair as specs;
@@ -10,7 +11,7 @@ use page::put_bytes;
 mod rows;
 
 // How many bytes there are of the line, and of its rows.
-#[derive(Drop)]
+#[derive(Clone, Copy)]
 pub struct Repaired {
     pub n: usize,
     pub rows: usize,

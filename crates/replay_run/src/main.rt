@@ -1,6 +1,7 @@
 // Lists each file of its folder `data` as pdblist lists its input. The files are lines drawn by the differential run, of every kind and with
 // every fault that pdblist can show at every place, and `stdout` holds what the Rust answered for them; differential/README.md says how both
 // were made. The last file is empty.
+#![tactic(auto)]
 use stream::list_from;
 
 fn replay(path: &[u8]) {

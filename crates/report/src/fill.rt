@@ -42,7 +42,7 @@ fn put_behind(
 }
 
 // Where the first line stands that was not put, its number, and how many bytes were put.
-#[derive(Drop)]
+#[derive(Clone, Copy)]
 pub struct Filled {
     pub at: usize,
     pub number: usize,

@@ -1,8 +1,10 @@
 // A row of a listing as data: a field's first column, and what stands there.
+#![tactic(auto)]
+
 use line::text::{Character, Text};
 
 // What stands in a field.
-#[derive(Drop)]
+#[derive(Clone, Copy)]
 pub enum Value {
     Unsigned(u64),
     Signed(i64),
@@ -17,7 +19,7 @@ pub enum Value {
 }
 
 // A field's first column, and what stands there.
-#[derive(Drop)]
+#[derive(Clone, Copy)]
 pub struct Row(pub u16, pub Value);
 
 impl Row {
@@ -25,7 +27,7 @@ impl Row {
 }
 
 // The rows of a record, which has sixteen fields at most. Rows that show nothing fill the list up.
-#[derive(Drop)]
+#[derive(Clone, Copy)]
 pub struct Rows {
     pub list: [Row; 16],
 }

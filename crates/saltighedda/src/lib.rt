@@ -4,6 +4,7 @@
 // include/saltighedda.h has it. An archive has the entries of the crate that it is made of and of no other, so that they stand here, and each is a
 // call of the crate that does the work.
 // Three of the calls tell of a refusal; they take the lent bytes of the first, and only their number counts.
+#![tactic(auto)]
 ghost use Rattle.packing.specs.Options.{input_of};
 ghost use Rattle.answers.specs.Face as specs;
 

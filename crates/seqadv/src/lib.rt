@@ -1,4 +1,5 @@
 // SEQADV: the record with its columns, its reader and its rows.
+#![tactic(auto)]
 pub mod read;
 pub mod record;
 pub mod rows;

@@ -8,13 +8,13 @@ use field::number_field::signed;
 use field::text_field::{optional, text, text_from};
 use line::fault::Faults;
 
-#[derive(Drop)]
+#[derive(Clone, Copy)]
 pub struct GotSeqadv {
     pub value: Seqadv,
     pub faults: Faults,
 }
 
-#[derive(Drop)]
+#[derive(Clone, Copy)]
 pub struct GotTarget {
     pub value: Target,
     pub faults: Faults,

@@ -5,14 +5,14 @@ use line::columns::Columns;
 use line::text::{Character, Text};
 
 // The residue of the database, if the line has one.
-#[derive(Drop)]
+#[derive(Clone, Copy)]
 pub enum Target {
     Residue { name: Text, number: i64 },
     NoResidue,
 }
 
 // A SEQADV.
-#[derive(Drop)]
+#[derive(Clone, Copy)]
 pub struct Seqadv {
     pub code: Text,
     pub residue: Text,

@@ -8,7 +8,7 @@ use field::number_field::unsigned;
 use field::text_field::character;
 use line::fault::Faults;
 
-#[derive(Drop)]
+#[derive(Clone, Copy)]
 pub struct GotSeqres {
     pub value: Seqres,
     pub faults: Faults,

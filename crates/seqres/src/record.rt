@@ -6,7 +6,7 @@ use line::columns::Columns;
 use line::text::{Character, Text};
 
 // A SEQRES: `triples` residue names, of three columns each and not trimmed.
-#[derive(Drop)]
+#[derive(Clone, Copy)]
 pub struct Seqres {
     pub serial: u64,
     pub chain: Character,

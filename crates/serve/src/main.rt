@@ -34,6 +34,7 @@
 //
 // If the table doesn't lie within the first block, or the room is over 4,096, nothing is called: the reply's first word is 2^64-1, the others
 // are 0, and no output is sent. What is left of a block when it isn't a whole request has one such reply.
+#![tactic(auto)]
 ghost use Rattle.std.specs.Prelude.{◌+◌, ◌<◌, ◌≤◌, length};
 
 use lexer::lex_line;
@@ -131,7 +132,7 @@ const NAME: usize = 12;
 
 const NAME_END: usize = 16;
 
-#[derive(Drop)]
+#[derive(Clone, Copy)]
 struct Told {
     written: usize,
     refusal: usize,
@@ -142,7 +143,7 @@ struct Told {
 }
 
 // What the words of a line's faults say.
-#[derive(Drop)]
+#[derive(Clone, Copy)]
 struct FaultsTold {
     sorts: usize,
     line: usize,

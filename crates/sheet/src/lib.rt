@@ -1,5 +1,6 @@
 // A line of 80 bytes, drawn field by field on bytes of one's own and then copied whole. What doesn't fit is told at the end: a pen keeps the
 // columns of the first field that doesn't, so that no field needs a branch of its own.
+#![tactic(auto)]
 ghost use Rattle.std.specs.Prelude.{◌≡◌, ◌-◌, ◌≤◌, length, drop, ◌++◌};
 ghost use Rattle.cell.specs.Cell.{Puts};
 ghost use Rattle.cell.specs.Text.{blanks};
@@ -16,7 +17,7 @@ use line::columns::Columns;
 use page::put_bytes;
 
 // What stands in a field, but for texts: a real with its places, one of ANISOU's six, MTRIX's `given`, a row from 0 on.
-#[derive(Drop)]
+#[derive(Clone, Copy)]
 pub enum Figure {
     Unsigned(u64),
     Signed(i64),
@@ -28,7 +29,7 @@ pub enum Figure {
 }
 
 // Where the next byte goes, and the columns of the first field that doesn't fit, 0 to 0 while all do.
-#[derive(Drop)]
+#[derive(Clone, Copy)]
 pub struct Pen {
     pub next: usize,
     pub miss: Columns,
@@ -39,7 +40,7 @@ impl Pen {
 }
 
 // A line was written; or a field doesn't fit; or there is too little room.
-#[derive(Drop)]
+#[derive(Clone, Copy)]
 pub enum Written {
     Line,
     NoFit(Columns),

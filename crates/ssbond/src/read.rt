@@ -9,19 +9,19 @@ use field::text_field::{character, optional, text};
 use line::columns::Columns;
 use line::fault::Faults;
 
-#[derive(Drop)]
+#[derive(Clone, Copy)]
 pub struct GotSSBond {
     pub value: SSBond,
     pub faults: Faults,
 }
 
-#[derive(Drop)]
+#[derive(Clone, Copy)]
 pub struct GotResidue {
     pub value: Residue,
     pub faults: Faults,
 }
 
-#[derive(Drop)]
+#[derive(Clone, Copy)]
 pub struct GotTail {
     pub value: Tail,
     pub places: u8,

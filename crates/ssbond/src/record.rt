@@ -5,7 +5,7 @@ use line::columns::Columns;
 use line::text::{Character, Text};
 
 // One side of a disulfide bond.
-#[derive(Drop)]
+#[derive(Clone, Copy)]
 pub struct Residue {
     pub name: Text,
     pub chain: Character,
@@ -27,7 +27,7 @@ impl Residue {
 }
 
 // The symmetry operators and the bond's length, which only a line of 78 bytes or more has.
-#[derive(Drop)]
+#[derive(Clone, Copy)]
 pub enum Tail {
     Bond {
         first: Text,
@@ -38,7 +38,7 @@ pub enum Tail {
 }
 
 // An SSBOND. The places are those of the length: how many digits stood behind its point, 0 where it is its default or not there.
-#[derive(Drop)]
+#[derive(Clone, Copy)]
 pub struct SSBond {
     pub first: Residue,
     pub second: Residue,

@@ -5,7 +5,7 @@ ghost use Rattle.stream.specs.Got.{Within};
 use libc::EINTR;
 
 // How many bytes were read, none at the end of the input; or that they can't be read, for a reason that `os::errno` has.
-#[derive(Drop)]
+#[derive(Clone, Copy)]
 pub enum Got {
     Bytes(usize),
     Failed,

@@ -18,7 +18,7 @@ fn hand_over(text: &[u8]) -> bool {
 }
 
 // How many bytes of what there is to print were handed over; or that one couldn't be written, for a reason that was told.
-#[derive(Drop)]
+#[derive(Clone, Copy)]
 pub enum Printed {
     Upto(usize),
     Failed,
@@ -37,7 +37,7 @@ fn print_next(held: Held, kept: &[u8; 1024], part: &[u8], done: usize, text: &[u
 }
 
 // What is held behind a part, all of whose bytes are taken, and how many bytes were handed over; or that one couldn't be written.
-#[derive(Drop)]
+#[derive(Clone, Copy)]
 pub enum Went {
     On { held: Held, done: usize },
     Failed,

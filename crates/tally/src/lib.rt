@@ -1,5 +1,6 @@
 // A running tally of a file's lines by name: what MASTER says of them, counted. A line's name is looked up in `names`, and in `compare` the counts
 // are held against a MASTER.
+#![tactic(auto)]
 ghost use Rattle.std.specs.Prelude.{◌≡◌};
 ghost use Rattle.tally.specs.Tally as specs;
 
@@ -9,7 +10,7 @@ pub mod names;
 use crate::names::number_of;
 
 // How many lines came of each sort that MASTER counts, by the names of its numbers. A count stops at 2^64-1, and no file has so many lines.
-#[derive(Drop)]
+#[derive(Clone, Copy)]
 pub struct Tally {
     pub remark: u64,
     pub het: u64,

@@ -8,25 +8,25 @@ use crate::record::{MtriX, OrigX, RowPlaces, Scale, Transformation};
 use field::number_field::{real, unsigned};
 use line::fault::Faults;
 
-#[derive(Drop)]
+#[derive(Clone, Copy)]
 pub struct GotScale {
     pub value: Scale,
     pub faults: Faults,
 }
 
-#[derive(Drop)]
+#[derive(Clone, Copy)]
 pub struct GotOrigX {
     pub value: OrigX,
     pub faults: Faults,
 }
 
-#[derive(Drop)]
+#[derive(Clone, Copy)]
 pub struct GotMtriX {
     pub value: MtriX,
     pub faults: Faults,
 }
 
-#[derive(Drop)]
+#[derive(Clone, Copy)]
 pub struct GotTransformation {
     pub value: Transformation,
     pub places: RowPlaces,

@@ -4,7 +4,7 @@ ghost use Rattle.std.specs.Prelude.{◌≡◌};
 use line::columns::Columns;
 
 // A row of a transformation: four doubles.
-#[derive(Drop)]
+#[derive(Clone, Copy)]
 pub struct Transformation {
     pub a: f64,
     pub b: f64,
@@ -29,7 +29,7 @@ impl Transformation {
 }
 
 // How many digits stood behind the point of each, 0 where it is its default.
-#[derive(Drop)]
+#[derive(Clone, Copy)]
 pub struct RowPlaces {
     pub a: u8,
     pub b: u8,
@@ -38,7 +38,7 @@ pub struct RowPlaces {
 }
 
 // A SCALEn.
-#[derive(Drop)]
+#[derive(Clone, Copy)]
 pub struct Scale {
     pub row: usize,
     pub values: Transformation,
@@ -58,7 +58,7 @@ impl Scale {
 }
 
 // An ORIGXn.
-#[derive(Drop)]
+#[derive(Clone, Copy)]
 pub struct OrigX {
     pub row: usize,
     pub values: Transformation,
@@ -78,7 +78,7 @@ impl OrigX {
 }
 
 // An MTRIXn.
-#[derive(Drop)]
+#[derive(Clone, Copy)]
 pub struct MtriX {
     pub row: usize,
     pub serial: u64,

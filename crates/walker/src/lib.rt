@@ -1,5 +1,7 @@
 // The lines of a lent file. A walker keeps the file and a position in it; the functions over it are thin, and leave the work to
 // `lines::line_at`, which takes the file and the position as they are. Callers that hold no walker use `step`.
+#![tactic(auto)]
+
 ghost use Rattle.std.specs.Prelude.{◌≡◌};
 ghost use Rattle.walker.specs.Lines.{number_behind, step_at};
 
@@ -8,7 +10,7 @@ use crate::lines::Step;
 pub mod lines;
 
 // A file and the offset of a line in it, or of the end.
-#[derive(Drop)]
+#[derive(Clone, Copy)]
 pub struct Walker<'a> {
     pub file: &'a [u8],
     pub at: usize,

@@ -3,7 +3,7 @@ ghost use Rattle.std.specs.Prelude.{false, ◌≡◌, ◌+◌, ◌<◌, length, 
 ghost use Rattle.walker.specs.Lines.{before_lf, has_lf, FullAt, line_length, step_at, part_of};
 
 // What stands at an offset of a file: a line, from `start` up to `end`, with the offset of what follows it; or the end.
-#[derive(Drop)]
+#[derive(Clone, Copy)]
 pub enum Step {
     At {
         start: usize,
