@@ -3,7 +3,7 @@
 use Rattle.std.proofs.Common.{refl}
 use Rattle.single.specs.One.{One}
 use Rattle.single.proofs.Laws.One.{equation}
-use Rattle.bench_read.proofs as its
+use Rattle.bench_read.specs.contracts as its
 
-pub saltighedda_bench_one : One its.saltighedda_bench.ended (λ M. its.saltighedda_bench.clauses)
+pub saltighedda_bench_one : One its.saltighedda_bench.ended (λ M 𝓤. its.saltighedda_bench.clauses)
 saltighedda_bench_one w κs a g = equation w (λ u v. refl)

@@ -3,16 +3,16 @@
 use mathlib.Core.Path.{refl}
 use Rattle.single.specs.One.{One}
 use Rattle.single.proofs.Laws.One.{equation}
-use Rattle.crystal.proofs as its
+use Rattle.crystal.specs.contracts as its
 
-pub lex_cryst_one : One its.read.lex_cryst.ended (λ M. its.read.lex_cryst.clauses)
+pub lex_cryst_one : One its.read.lex_cryst.ended (λ M 𝓤. its.read.lex_cryst.clauses)
 lex_cryst_one w κs a g = equation w (λ u v. refl)
 
-pub cell_new_one : One its.record.Cell.new.ended (λ M. its.record.Cell.new.clauses)
+pub cell_new_one : One its.record.Cell.new.ended (λ M 𝓤. its.record.Cell.new.clauses)
 cell_new_one w κs a g = equation w (λ u v. refl)
 
-pub crystal_new_one : One its.record.Crystal.new.ended (λ M. its.record.Crystal.new.clauses)
+pub crystal_new_one : One its.record.Crystal.new.ended (λ M 𝓤. its.record.Crystal.new.clauses)
 crystal_new_one w κs a g = equation w (λ u v. refl)
 
-pub crystal_rows_one : One its.rows.crystal_rows.ended (λ M. its.rows.crystal_rows.clauses)
+pub crystal_rows_one : One its.rows.crystal_rows.ended (λ M 𝓤. its.rows.crystal_rows.clauses)
 crystal_rows_one w κs a g = equation w (λ u v. refl)

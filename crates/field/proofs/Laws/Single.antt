@@ -3,88 +3,88 @@
 use mathlib.Core.Path.{refl}
 use Rattle.single.specs.One.{One}
 use Rattle.single.proofs.Laws.One.{equation}
-use Rattle.field.proofs as its
+use Rattle.field.specs.contracts as its
 
-pub fine_charge-one : One its.charge.fine_charge.ended (λ M. its.charge.fine_charge.clauses)
+pub fine_charge-one : One its.charge.fine_charge.ended (λ M 𝓤. its.charge.fine_charge.clauses)
 fine_charge-one w κs a g = equation w (λ u v. refl)
 
-pub charge-one : One its.charge.charge.ended (λ M. its.charge.charge.clauses)
+pub charge-one : One its.charge.charge.ended (λ M 𝓤. its.charge.charge.clauses)
 charge-one w κs a g = equation w (λ u v. refl)
 
-pub finereal_is_fine_one : One its.number_field.FineReal.is_fine.ended (λ M. its.number_field.FineReal.is_fine.clauses)
+pub finereal_is_fine_one : One its.number_field.FineReal.is_fine.ended (λ M 𝓤. its.number_field.FineReal.is_fine.clauses)
 finereal_is_fine_one w κs a g = equation w (λ u v. refl)
 
-pub short-one : One its.number_field.short.ended (λ M. its.number_field.short.clauses)
+pub short-one : One its.number_field.short.ended (λ M 𝓤. its.number_field.short.clauses)
 short-one w κs a g = equation w (λ u v. refl)
 
-pub wrong-one : One its.number_field.wrong.ended (λ M. its.number_field.wrong.clauses)
+pub wrong-one : One its.number_field.wrong.ended (λ M 𝓤. its.number_field.wrong.clauses)
 wrong-one w κs a g = equation w (λ u v. refl)
 
-pub ends_before_one : One its.number_field.ends_before.ended (λ M. its.number_field.ends_before.clauses)
+pub ends_before_one : One its.number_field.ends_before.ended (λ M 𝓤. its.number_field.ends_before.clauses)
 ends_before_one w κs a g = equation w (λ u v. refl)
 
-pub fine_unsigned-one : One its.number_field.fine_unsigned.ended (λ M. its.number_field.fine_unsigned.clauses)
+pub fine_unsigned-one : One its.number_field.fine_unsigned.ended (λ M 𝓤. its.number_field.fine_unsigned.clauses)
 fine_unsigned-one w κs a g = equation w (λ u v. refl)
 
-pub unsigned-one : One its.number_field.unsigned.ended (λ M. its.number_field.unsigned.clauses)
+pub unsigned-one : One its.number_field.unsigned.ended (λ M 𝓤. its.number_field.unsigned.clauses)
 unsigned-one w κs a g = equation w (λ u v. refl)
 
-pub fine_signed-one : One its.number_field.fine_signed.ended (λ M. its.number_field.fine_signed.clauses)
+pub fine_signed-one : One its.number_field.fine_signed.ended (λ M 𝓤. its.number_field.fine_signed.clauses)
 fine_signed-one w κs a g = equation w (λ u v. refl)
 
-pub signed-one : One its.number_field.signed.ended (λ M. its.number_field.signed.clauses)
+pub signed-one : One its.number_field.signed.ended (λ M 𝓤. its.number_field.signed.clauses)
 signed-one w κs a g = equation w (λ u v. refl)
 
-pub fine_real-one : One its.number_field.fine_real.ended (λ M. its.number_field.fine_real.clauses)
+pub fine_real-one : One its.number_field.fine_real.ended (λ M 𝓤. its.number_field.fine_real.clauses)
 fine_real-one w κs a g = equation w (λ u v. refl)
 
-pub real-one : One its.number_field.real.ended (λ M. its.number_field.real.clauses)
+pub real-one : One its.number_field.real.ended (λ M 𝓤. its.number_field.real.clauses)
 real-one w κs a g = equation w (λ u v. refl)
 
-pub factor-one : One its.number_field.factor.ended (λ M. its.number_field.factor.clauses)
+pub factor-one : One its.number_field.factor.ended (λ M 𝓤. its.number_field.factor.clauses)
 factor-one w κs a g = equation w (λ u v. refl)
 
-pub unsigned_from-one : One its.number_field.unsigned_from.ended (λ M. its.number_field.unsigned_from.clauses)
+pub unsigned_from-one : One its.number_field.unsigned_from.ended (λ M 𝓤. its.number_field.unsigned_from.clauses)
 unsigned_from-one w κs a g = equation w (λ u v. refl)
 
-pub fine_thousandths_one : One its.quick.fine_thousandths.ended (λ M. its.quick.fine_thousandths.clauses)
+pub fine_thousandths_one : One its.quick.fine_thousandths.ended (λ M 𝓤. its.quick.fine_thousandths.clauses)
 fine_thousandths_one w κs a g = equation w (λ u v. refl)
 
-pub fine_hundredths_one : One its.quick.fine_hundredths.ended (λ M. its.quick.fine_hundredths.clauses)
+pub fine_hundredths_one : One its.quick.fine_hundredths.ended (λ M 𝓤. its.quick.fine_hundredths.clauses)
 fine_hundredths_one w κs a g = equation w (λ u v. refl)
 
-pub fine_four_one : One its.quick.fine_four.ended (λ M. its.quick.fine_four.clauses)
+pub fine_four_one : One its.quick.fine_four.ended (λ M 𝓤. its.quick.fine_four.clauses)
 fine_four_one w κs a g = equation w (λ u v. refl)
 
-pub fine_five_one : One its.quick.fine_five.ended (λ M. its.quick.fine_five.clauses)
+pub fine_five_one : One its.quick.fine_five.ended (λ M 𝓤. its.quick.fine_five.clauses)
 fine_five_one w κs a g = equation w (λ u v. refl)
 
-pub known-one : One its.remark.known.ended (λ M. its.remark.known.clauses)
+pub known-one : One its.remark.known.ended (λ M 𝓤. its.remark.known.clauses)
 known-one w κs a g = equation w (λ u v. refl)
 
-pub fine_text-one : One its.text_field.fine_text.ended (λ M. its.text_field.fine_text.clauses)
+pub fine_text-one : One its.text_field.fine_text.ended (λ M 𝓤. its.text_field.fine_text.clauses)
 fine_text-one w κs a g = equation w (λ u v. refl)
 
-pub text-one : One its.text_field.text.ended (λ M. its.text_field.text.clauses)
+pub text-one : One its.text_field.text.ended (λ M 𝓤. its.text_field.text.clauses)
 text-one w κs a g = equation w (λ u v. refl)
 
-pub text_within-one : One its.text_field.text_within.ended (λ M. its.text_field.text_within.clauses)
+pub text_within-one : One its.text_field.text_within.ended (λ M 𝓤. its.text_field.text_within.clauses)
 text_within-one w κs a g = equation w (λ u v. refl)
 
-pub text_from-one : One its.text_field.text_from.ended (λ M. its.text_field.text_from.clauses)
+pub text_from-one : One its.text_field.text_from.ended (λ M 𝓤. its.text_field.text_from.clauses)
 text_from-one w κs a g = equation w (λ u v. refl)
 
-pub end_text_from-one : One its.text_field.end_text_from.ended (λ M. its.text_field.end_text_from.clauses)
+pub end_text_from-one : One its.text_field.end_text_from.ended (λ M 𝓤. its.text_field.end_text_from.clauses)
 end_text_from-one w κs a g = equation w (λ u v. refl)
 
-pub fine_character-one : One its.text_field.fine_character.ended (λ M. its.text_field.fine_character.clauses)
+pub fine_character-one : One its.text_field.fine_character.ended (λ M 𝓤. its.text_field.fine_character.clauses)
 fine_character-one w κs a g = equation w (λ u v. refl)
 
-pub character_one : One its.text_field.character.ended (λ M. its.text_field.character.clauses)
+pub character_one : One its.text_field.character.ended (λ M 𝓤. its.text_field.character.clauses)
 character_one w κs a g = equation w (λ u v. refl)
 
-pub fine_optional-one : One its.text_field.fine_optional.ended (λ M. its.text_field.fine_optional.clauses)
+pub fine_optional-one : One its.text_field.fine_optional.ended (λ M 𝓤. its.text_field.fine_optional.clauses)
 fine_optional-one w κs a g = equation w (λ u v. refl)
 
-pub optional_one : One its.text_field.optional.ended (λ M. its.text_field.optional.clauses)
+pub optional_one : One its.text_field.optional.ended (λ M 𝓤. its.text_field.optional.clauses)
 optional_one w κs a g = equation w (λ u v. refl)

@@ -3,13 +3,13 @@
 use mathlib.Core.Path.{refl}
 use Rattle.single.specs.One.{One}
 use Rattle.single.proofs.Laws.One.{equation}
-use Rattle.kind.proofs as its
+use Rattle.kind.specs.contracts as its
 
-pub kind_of-one : One its.kind_of.ended (λ M. its.kind_of.clauses)
+pub kind_of-one : One its.kind_of.ended (λ M 𝓤. its.kind_of.clauses)
 kind_of-one w κs a g = equation w (λ u v. refl)
 
-pub name_of-one : One its.name.name_of.ended (λ M. its.name.name_of.clauses)
+pub name_of-one : One its.name.name_of.ended (λ M 𝓤. its.name.name_of.clauses)
 name_of-one w κs a g = equation w (λ u v. refl)
 
-pub number_of-one : One its.numbered.number_of.ended (λ M. its.numbered.number_of.clauses)
+pub number_of-one : One its.numbered.number_of.ended (λ M 𝓤. its.numbered.number_of.clauses)
 number_of-one w κs a g = equation w (λ u v. refl)

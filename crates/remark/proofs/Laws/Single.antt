@@ -3,13 +3,13 @@
 use mathlib.Core.Path.{refl}
 use Rattle.single.specs.One.{One}
 use Rattle.single.proofs.Laws.One.{equation}
-use Rattle.remark.proofs as its
+use Rattle.remark.specs.contracts as its
 
-pub lex_remark_one : One its.read.lex_remark.ended (λ M. its.read.lex_remark.clauses)
+pub lex_remark_one : One its.read.lex_remark.ended (λ M 𝓤. its.read.lex_remark.clauses)
 lex_remark_one w κs a g = equation w (λ u v. refl)
 
-pub remark_new_one : One its.record.Remark.new.ended (λ M. its.record.Remark.new.clauses)
+pub remark_new_one : One its.record.Remark.new.ended (λ M 𝓤. its.record.Remark.new.clauses)
 remark_new_one w κs a g = equation w (λ u v. refl)
 
-pub remark_rows_one : One its.rows.remark_rows.ended (λ M. its.rows.remark_rows.clauses)
+pub remark_rows_one : One its.rows.remark_rows.ended (λ M 𝓤. its.rows.remark_rows.clauses)
 remark_rows_one w κs a g = equation w (λ u v. refl)

@@ -3,7 +3,7 @@
 use Rattle.single.specs.One.{One}
 use Rattle.single.proofs.Laws.One.{leaves, lent_both}
 use Rattle.remedy.proofs.Laws.Mend.{mends_into_one}
-use Rattle.remedy.proofs as its
+use Rattle.remedy.specs.contracts as its
 
-pub mend_into_one : One its.mend_into.ended (λ M. its.mend_into.clauses)
+pub mend_into_one : One its.mend_into.ended (λ M 𝓤. its.mend_into.clauses)
 mend_into_one w κs a g = leaves w (λ r s u v e f. lent_both 1 0 0 (mends_into_one e f))

@@ -3,13 +3,13 @@
 use mathlib.Core.Path.{refl}
 use Rattle.single.specs.One.{One}
 use Rattle.single.proofs.Laws.One.{equation}
-use Rattle.seqadv.proofs as its
+use Rattle.seqadv.specs.contracts as its
 
-pub lex_seqadv_one : One its.read.lex_seqadv.ended (λ M. its.read.lex_seqadv.clauses)
+pub lex_seqadv_one : One its.read.lex_seqadv.ended (λ M 𝓤. its.read.lex_seqadv.clauses)
 lex_seqadv_one w κs a g = equation w (λ u v. refl)
 
-pub seqadv_new_one : One its.record.Seqadv.new.ended (λ M. its.record.Seqadv.new.clauses)
+pub seqadv_new_one : One its.record.Seqadv.new.ended (λ M 𝓤. its.record.Seqadv.new.clauses)
 seqadv_new_one w κs a g = equation w (λ u v. refl)
 
-pub seqadv_rows_one : One its.rows.seqadv_rows.ended (λ M. its.rows.seqadv_rows.clauses)
+pub seqadv_rows_one : One its.rows.seqadv_rows.ended (λ M 𝓤. its.rows.seqadv_rows.clauses)
 seqadv_rows_one w κs a g = equation w (λ u v. refl)

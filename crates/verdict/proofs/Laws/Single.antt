@@ -3,7 +3,7 @@
 use Rattle.single.specs.One.{One}
 use Rattle.single.proofs.Laws.One.{leaves, lent}
 use Rattle.page.proofs.Laws.Single.{page-one}
-use Rattle.verdict.proofs as its
+use Rattle.verdict.specs.contracts as its
 
-pub put_verdict_one : One its.put_verdict.ended (λ M. its.put_verdict.clauses)
+pub put_verdict_one : One its.put_verdict.ended (λ M 𝓤. its.put_verdict.clauses)
 put_verdict_one w κs a g = leaves w (λ r s u v e f. lent 1 0 (page-one e f))

@@ -3,10 +3,10 @@
 use Rattle.single.specs.One.{One}
 use Rattle.single.proofs.Laws.One.{leaves, lent}
 use Rattle.sheet.proofs.Laws.One.{writes_one}
-use Rattle.writer.proofs as its
+use Rattle.writer.specs.contracts as its
 
-pub write_record_one : One its.write_record.ended (λ M. its.write_record.clauses)
+pub write_record_one : One its.write_record.ended (λ M 𝓤. its.write_record.clauses)
 write_record_one w κs a g = leaves w (λ r s u v e f. lent 5 0 (writes_one e f))
 
-pub write_as_read_one : One its.write_as_read.ended (λ M. its.write_as_read.clauses)
+pub write_as_read_one : One its.write_as_read.ended (λ M 𝓤. its.write_as_read.clauses)
 write_as_read_one w κs a g = leaves w (λ r s u v e f. lent 4 0 (writes_one e f))

@@ -1,0 +1,17 @@
+-- `carry::keep::absorb` meets its contract: at each turn, what the bytes that are left would leave is what all of them leave (Laws.Keep).
+-- Assumes nothing.
+use Prim.Native.Nat.{◌+◌, ◌-◌}
+use mathlib.Core.Path.{◌≡◌}
+use lib.ListN.{length, drop}
+use Rattle.carry.specs.Held.{absorbed}
+use Rattle.walker.specs.Lines.{before_lf}
+use Rattle.carry.proofs.keep.absorb.Given as goal
+
+abbrev pub invariant-loop-i : goal.invariant-loop-i
+invariant-loop-i l =
+    (absorbed (record { l.held = record { l.total = l.total; l.cr = l.cr; number = l.held.number }; l.kept = l.kept }) (drop l.i l.part)
+    ≡ absorbed (record { l.held = l.held; l.kept = l.initial.kept }) (drop l.at l.part))
+    × (l.i + before_lf (drop l.i l.part) ≡ l.at + before_lf (drop l.at l.part))
+
+abbrev pub decreases-loop-i : goal.decreases-loop-i
+decreases-loop-i l = length l.part - l.i

@@ -1,0 +1,7 @@
+-- `field::number_field::wrong` meets its contract.
+-- Assumes nothing.
+use mathlib.Core.Path.{refl, ◌∙◌}
+use Rattle.field.proofs.number_field.wrong.Goals as goal
+
+pub returns : goal.returns
+returns c = c.new.ensures ∙ rw c.width.ensures refl

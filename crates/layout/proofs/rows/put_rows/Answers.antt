@@ -1,0 +1,21 @@
+-- `layout::rows::put_rows` meets its contract. The loop's invariant: with the rows that are left, the page is as all rows leave it.
+-- Assumes nothing.
+use Prim.Native.Nat.{◌-◌}
+use native.Mathlib.Omega.{arith}
+use Rattle.layout.specs.Row.{row_bytes}
+use Rattle.layout.proofs.Laws.Each.{each_next, each-done}
+use borrow.Author.Rules.{rules}
+use Rattle.layout.proofs.rows.put_rows.Goals as goal
+
+pub loop-i-preserved : goal.loop-i-preserved
+loop-i-preserved c =
+    let l = c.loop-i in
+    let many = c.well_formed in
+    let next =
+    each_next (row_bytes _) c.args.t4 l.i _ _ _ _ (omega arith) c.put_row-next.ensures l.invariant.2 in
+    (search rules, search rules, next)
+
+pub returns : goal.returns
+returns c =
+    let many = c.well_formed in
+    each-done (row_bytes _) c.args.t4 c.loop-i.i _ _ (omega arith) c.loop-i.invariant.2

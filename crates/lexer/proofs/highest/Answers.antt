@@ -1,0 +1,32 @@
+-- `lexer::highest` meets its contract. The loop's invariant: the highest of all bytes is that of those from here, behind the one held.
+-- Assumes nothing.
+use Prim.Native.Nat.{◌-◌}
+use mathlib.Core.Path.{◌≡◌, refl, sym, ◌∙◌}
+use mathlib.Core.Logic.{⊎_elim}
+use native.Mathlib.Omega.{arith}
+use lib.ListN.{length}
+use lib.Seq.{drop-length}
+use Rattle.lexer.specs.Steps.{highest}
+use Rattle.lexer.proofs.Laws.Plain.{highest-more, highest-same}
+use borrow.Author.Rules.{rules}
+use Rattle.lexer.proofs.highest.Goals as goal
+
+pub loop-i-preserved : goal.loop-i-preserved
+loop-i-preserved c =
+    let l = c.loop-i in
+    let t = c.args.line.now in
+    let h = c.loop-i-test.true in (
+      search rules,
+      l.invariant.1 ∙ ⊎_elim
+          (λ w. rw w.1 (highest-more t l.i l.most h w.0.taken))
+          (λ w. rw w.1 (highest-same t l.i l.most h w.0.left))
+          c.if-most-b.branch,
+    )
+
+pub returns : goal.returns
+unfolding highest
+returns c =
+    let l = c.loop-i in
+    let t = c.args.line.now in
+    let e : l.i ≡ length t = omega arith in
+    sym (l.invariant.1 ∙ rw (e, drop-length t) refl)

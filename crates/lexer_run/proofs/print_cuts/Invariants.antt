@@ -1,0 +1,10 @@
+-- `lexer_run::print_cuts` is safe and ends.
+-- Assumes nothing.
+use Prim.Native.Nat.{◌-◌, ◌≤◌}
+use Rattle.lexer_run.proofs.print_cuts.Given as goal
+
+abbrev pub invariant-loop-n : goal.invariant-loop-n
+invariant-loop-n l = l.n ≤ 82
+
+abbrev pub decreases-loop-n : goal.decreases-loop-n
+decreases-loop-n l = 82 - l.n

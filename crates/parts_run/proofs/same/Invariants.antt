@@ -1,0 +1,10 @@
+-- `parts_run::same` is safe and ends.
+-- Assumes nothing.
+use Prim.Native.Nat.{◌-◌}
+use Rattle.parts_run.proofs.same.Given as goal
+
+abbrev pub invariant-loop-i : goal.invariant-loop-i
+invariant-loop-i l = Unit {0}
+
+abbrev pub decreases-loop-i : goal.decreases-loop-i
+decreases-loop-i l = l.n - l.i

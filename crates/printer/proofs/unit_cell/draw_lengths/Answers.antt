@@ -1,0 +1,12 @@
+-- `printer::unit_cell::draw_lengths` meets its contract: one field behind the other.
+-- Assumes nothing.
+use mathlib.Core.Path.{refl}
+use Rattle.sheet.proofs.Laws.Draft.{drawn-from, drawn-one}
+use Rattle.printer.proofs.unit_cell.draw_lengths.Goals as goal
+
+pub returns : goal.returns
+returns c =
+    drawn-one _ _ _ _ _ (rw c.places_at-3.ensures at c.draw_figure.ensures)
+    (drawn-one _ _ _ _ _ (rw c.places_at-2.ensures at c.draw_figure-second.ensures)
+    (drawn-one _ _ _ _ _ (rw c.places_at.ensures at c.draw_figure-first.ensures)
+    (drawn-from _ _ refl)))

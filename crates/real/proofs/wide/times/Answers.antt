@@ -1,0 +1,15 @@
+-- `real::wide::times` meets its contract: one rounding of an exact product.
+-- Assumes nothing.
+use native.Mathlib.Omega.{arith}
+use mathlib.Core.Bool.{true, false}
+use Rattle.real.proofs.Laws.Wide.{few_in, times_nearest}
+use Rattle.real.proofs.wide.times.Goals as goal
+
+pub int_to_float-product : goal.int_to_float-product
+int_to_float-product c = few_in _ (omega arith)
+
+pub returns-then-minus : goal.returns-then-minus
+returns-then-minus c = rw (c.ten.ensures, c.if-minus.true) (times_nearest true _ _ (omega arith) (omega arith))
+
+pub returns : goal.returns
+returns c = rw (c.ten.ensures, c.if-minus.false) (times_nearest false _ _ (omega arith) (omega arith))

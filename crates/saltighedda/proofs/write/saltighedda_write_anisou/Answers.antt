@@ -1,0 +1,7 @@
+-- `saltighedda::write::saltighedda_write_anisou` meets its contract: the signed numbers come to the callee as they are.
+-- Assumes nothing.
+use mir.Facts.{to_z-of_z}
+use Rattle.saltighedda.proofs.write.saltighedda_write_anisou.Goals as goal
+
+pub returns : goal.returns
+returns c = let fits = c.ranges in rw (to_z-of_z fits.number, to_z-of_z fits.charge) at c.pack_anisou.ensures

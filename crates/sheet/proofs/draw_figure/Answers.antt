@@ -1,0 +1,8 @@
+-- `sheet::draw_figure` meets its contract: blanks, the field itself, and the pen behind it.
+-- Assumes nothing.
+use Rattle.sheet.proofs.Laws.Draft.{inked-step}
+use Rattle.sheet.specs.Sheet.{◌holds◌}
+use Rattle.sheet.proofs.draw_figure.Goals as goal
+
+pub returns : goal.returns
+returns c = inked-step _ _ _ _ _ (_ holds _) _ _ c.fill-start.ensures (rw c.width.ensures at c.put_figure-put.ensures) c.mark.ensures

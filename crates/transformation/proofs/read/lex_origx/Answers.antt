@@ -1,0 +1,13 @@
+-- `transformation::read::lex_origx` meets its contract: each value is its reader's, and the faults go on in the order of the table.
+-- Assumes nothing.
+use lib.Ieee.{of_bits}
+use Rattle.transformation.proofs.read.lex_origx.Goals as goal
+
+pub returns : goal.returns
+unfolding of_bits
+returns c =
+    simp (
+      c.none.ensures,
+      c.lex_transformation-values.ensures,
+      c.new-origx.ensures,
+    )

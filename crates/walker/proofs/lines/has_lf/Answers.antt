@@ -1,0 +1,20 @@
+-- `walker::lines::has_lf` meets its contract. The loop's invariant: what was found with what is still to be looked at gives what all gives.
+-- Assumes nothing.
+use Prim.Native.Nat.{◌-◌}
+use mathlib.Core.Bool.{false}
+use mathlib.Core.Logic.{⊎_elim}
+use Rattle.walker.proofs.Laws.Blocks.{lf_hit, lf-miss, lf-all}
+use Rattle.walker.proofs.lines.has_lf.Goals as goal
+
+pub loop-i-preserved : goal.loop-i-preserved
+loop-i-preserved c =
+    let t = c.args.bytes.now in
+    let loop = c.loop-i in
+    let h = c.loop-i-test.true in
+    ⊎_elim
+    (λ x. lf_hit t loop.i h loop.found loop.invariant _ x.0.taken x.1)
+    (λ x. lf-miss t loop.i h loop.found loop.invariant _ x.0.left x.1)
+    c.if-bytes-i-eq10.branch
+
+pub returns : goal.returns
+returns c = lf-all _ _ _ c.loop-i-test.false c.loop-i.invariant
