@@ -2,7 +2,7 @@
 -- fits. The machine reads a signed number back from its bits, to_z (of_z n), which is n where n fits.
 -- Assumes nothing.
 use Prim.Native.Nat.{ℕ, zero, suc, ◌+◌}
-use mathlib.Core.Path.{◌≡◌, refl}
+use mathlib.Core.Path.{◌≡◌, refl, ◌∙◌}
 use mathlib.Core.Bool.{true, false}
 use native.Mathlib.Numerals.{add-one}
 use native.Mathlib.Omega.{arith}
@@ -33,6 +33,22 @@ next-distance (negsuc (suc k)) h = rw (+ℤ_one (negsuc (suc k))) (+ℤ_idl (pos
 one_more : (n : ℤ) → lt_z n (pos 0) ≡ true → mag n + 1 ≡ nat_abs n
 one_more (pos a) h = absurd (omega (arith, ltb-true a 0 h))
 one_more (negsuc k) h = add-one k
+
+module _ (n : ℤ) (f : SFits w64 n) (h : lt_z (read n) (pos 0) ≡ true) where
+  below : lt_z n (pos 0) ≡ true
+  below = rw (to_z-of_z {w = w64} f) at h
+
+  sum_fits : SFits w64 (read n +ℤ pos 1)
+  sum_fits = rw (to_z-of_z {w = w64} f) (next_fits n f below)
+
+  distance : pos 0 -ℤ read (read n +ℤ pos 1) ≡ pos (mag n)
+  distance = rw (to_z-of_z {w = w64} sum_fits) (rw (to_z-of_z {w = w64} f) (next-distance n below))
+
+  distance-fits : SFits w64 (pos 0 -ℤ read (read n +ℤ pos 1))
+  distance-fits = rw distance (record { sfits = f.sfits })
+
+  distance_read : read (pos 0 -ℤ read (read n +ℤ pos 1)) ≡ pos (mag n)
+  distance_read = to_z-of_z {w = w64} distance-fits ∙ distance
 
 -- ---- zero and up
 zero_up : (n : ℤ) → SFits w64 n → lt_z n (pos 0) ≡ false → T (non_neg n) × Fits w64 (nat_abs n)

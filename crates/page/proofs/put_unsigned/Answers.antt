@@ -39,5 +39,5 @@ returns c =
     let text = set l.text (l.i - 1) (48 + l.rest) in
     let e = length-set l.text (l.i - 1) (48 + l.rest) in
     let rest = rest_from (l.i - 1) (20 - (l.i - 1)) text (omega arith) in
-    let last = decimal-last l.text l.i l.rest l.invariant.0 (omega arith) c.loop-test.false in
+    let last = decimal-last l.text l.i l.rest l.invariant.0 (omega arith) c.loop-rest-test.false in
     c.put_bytes.ensures ∙ ap (put _) (rest ∙ last ∙ l.invariant.4)

@@ -8,7 +8,7 @@ use Rattle.pdbmaster.proofs.main.Given as goal
 
 abbrev pub invariant-loop-turns : goal.invariant-loop-turns
 invariant-loop-turns l =
-    (length l.space ≡ 65536) × Came (record { l.watch = l.watch; state = record { l.held = l.held; l.kept = l.kept } }) l.turns
+    (length l.space ≡ 65536) × Came (record { watch = l.watch; state = record { held = l.held; kept = l.kept } }) l.turns
 
 abbrev pub decreases-loop-turns : goal.decreases-loop-turns
 decreases-loop-turns l = l.turns

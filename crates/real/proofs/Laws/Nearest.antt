@@ -144,6 +144,8 @@ fits-units (fin t (suc m) e) s Y f v =
     let low = leb→le (down e) (2 ^ 1074) (and_r (a && b) c left) in
     let (j, same) = digits-units (suc m) 0 1074 Y e low v.1 in
     (suc m, j, few, same)
+fits-units lib.Ieee.nan s Y f v = elim v [ ]
+fits-units (lib.Ieee.inf _) s Y f v = elim v [ ]
 
 pub round_nearest : (s : Bool) (num den : ℕ) → 0 < den → grid binary64 num den < overflow binary64 → NearestDouble s num den (round binary64 s num den)
 round_nearest s num den D fine =

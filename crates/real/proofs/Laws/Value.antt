@@ -24,20 +24,30 @@ value_same (fin t m z) s a c b d C e v = (
   eq_of_mul-eq-mul_right c C (m * up z * d) (b * down z)
       (rw (mul_right_comm (m * up z) d c, v.1, mul_right_comm b (down z) c, e) (mul_right_comm a (down z) d)),
 )
+value_same lib.Ieee.nan s a c b d C e v = elim v [ ]
+value_same (lib.Ieee.inf _) s a c b d C e v = elim v [ ]
 
 pub value_tells : (x : Float) (s t : Bool) (a b c : ℕ) → HasValue x s a c → HasValue x t b c → (s ≡ t) × (a ≡ b)
 value_tells (fin u m z) s t a b c v w = (sym v.0 ∙ w.0, eq_of_mul-eq-mul_right (down z) (down_pos z) a b (sym v.1 ∙ w.1))
+value_tells lib.Ieee.nan s t a b c v w = elim v [ ]
+value_tells (lib.Ieee.inf _) s t a b c v w = elim v [ ]
 
 pub value_neg : (x : Float) (s : Bool) (a c : ℕ) → HasValue x s a c → HasValue (neg x) (not s) a c
 unfolding neg
 value_neg (fin t m z) s a c v = (ap not v.0, v.1)
+value_neg lib.Ieee.nan s a c v = elim v [ ]
+value_neg (lib.Ieee.inf _) s a c v = elim v [ ]
 
 pub value_finite : (x : Float) (s : Bool) (a c : ℕ) → HasValue x s a c → T (finite x)
 value_finite (fin t m z) s a c v = tt
+value_finite lib.Ieee.nan s a c v = elim v [ ]
+value_finite (lib.Ieee.inf _) s a c v = elim v [ ]
 
 pub finite_number : (x : Float) → T (finite x) → T (not (is_nan x))
 unfolding is_nan
 finite_number (fin t m z) h = tt
+finite_number lib.Ieee.nan h = elim h [ ]
+finite_number (lib.Ieee.inf _) h = elim h [ ]
 
 -- up to 2 ^ prec an integer is a double
 pub integer-value : (z : ℤ) → nat_abs z ≤ 2 ^ prec binary64 → HasValue (of_int binary64 z) (below z) (nat_abs z) 1
@@ -68,3 +78,7 @@ quotient_round f (fin t a e) (fin u b g) s m d D v w =
     let same = cross (a * up e) (b * up g) (down e) (down g) m d v.1 w.1 in
     rw (ne_eqb b 0 (omega (arith, first_pos b (up g) over)), v.0, w.0, unlike_false s)
     (round_same f s (a * up e * down g) (b * up g * down e) m d (mul-pos over (down_pos e)) D same)
+quotient_round f lib.Ieee.nan y s m d D v w = elim v [ ]
+quotient_round f (lib.Ieee.inf _) y s m d D v w = elim v [ ]
+quotient_round f (fin t a e) lib.Ieee.nan s m d D v w = elim w [ ]
+quotient_round f (fin t a e) (lib.Ieee.inf _) s m d D v w = elim w [ ]

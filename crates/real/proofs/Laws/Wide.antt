@@ -58,6 +58,10 @@ product_round f (fin t a e) (fin u b g) s m d v w =
     rw (v.0, w.0, unlike_false s)
     (round_same f s (a * up e * (b * up g)) (down e * down g) (m * d) 1 (mul-pos (down_pos e) (down_pos g)) (zero-lt-suc 0)
     (cross (a * up e) (b * up g) (down e) (down g) m d v.1 w.1))
+product_round f lib.Ieee.nan y s m d v w = elim v [ ]
+product_round f (inf _) y s m d v w = elim v [ ]
+product_round f (fin t a e) lib.Ieee.nan s m d v w = elim w [ ]
+product_round f (fin t a e) (inf _) s m d v w = elim w [ ]
 
 -- two exact powers multiply to the double of their product
 ten_product : (j k : ℕ) → j ≤ 22 → k ≤ 22

@@ -9,7 +9,7 @@ use Rattle.stream.proofs.list_from.Given as goal
 
 abbrev pub invariant-loop-turns : goal.invariant-loop-turns
 invariant-loop-turns l =
-    (length l.space ≡ 65536) × Came (record { l.held = l.held; l.kept = l.kept }) × (l.held.number + 65536 * l.turns < 2 ^ 64)
+    (length l.space ≡ 65536) × Came (record { held = l.held; kept = l.kept }) × (l.held.number + 65536 * l.turns < 2 ^ 64)
 
 abbrev pub decreases-loop-turns : goal.decreases-loop-turns
 decreases-loop-turns l = l.turns

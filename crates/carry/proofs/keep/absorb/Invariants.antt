@@ -9,8 +9,8 @@ use Rattle.carry.proofs.keep.absorb.Given as goal
 
 abbrev pub invariant-loop-i : goal.invariant-loop-i
 invariant-loop-i l =
-    (absorbed (record { l.held = record { l.total = l.total; l.cr = l.cr; number = l.held.number }; l.kept = l.kept }) (drop l.i l.part)
-    ≡ absorbed (record { l.held = l.held; l.kept = l.initial.kept }) (drop l.at l.part))
+    (absorbed (record { held = record { total = l.total; cr = l.cr; number = l.held.number }; kept = l.kept }) (drop l.i l.part)
+    ≡ absorbed (record { held = l.held; kept = l.initial.kept }) (drop l.at l.part))
     × (l.i + before_lf (drop l.i l.part) ≡ l.at + before_lf (drop l.at l.part))
 
 abbrev pub decreases-loop-i : goal.decreases-loop-i

@@ -9,7 +9,7 @@ pub overflow_cast-places : goal.overflow_cast-places
 overflow_cast-places c = let few = rw c.in-W.is at c.requires in omega (arith, few.1)
 
 pub wide_double-requires : goal.wide_double-requires
-wide_double-requires c = rw c.in-W.is at c.requires
+wide_double-requires c = let few = rw c.in-W.is at c.requires in record { digits_bound = few.0; places_bound = few.1 }
 
 pub returns-in-W : goal.returns-in-W
 returns-in-W c = c.wide_double.ensures ∙ ap wide_real (sym c.in-W.is)
