@@ -105,7 +105,7 @@ signed_in_lem t NotI e = lit< tt
 
 pub signed-held : (l : List ℕ) (at : Columns) → to_z w64 (of_z w64 (signed_at l at)) ≡ signed_at l at
 unfolding signed_at
-signed-held l at = to_z-of_z (record { sfits = signed_in_lem (part_of l at) (signed_of (part_of l at)) refl })
+signed-held l at = to_z-of_z {w = w64} (record { sfits = signed_in_lem (part_of l at) (signed_of (part_of l at)) refl })
 
 sign_in : (s : Bool) (n : ℕ) → n ≤ 2 ^ 63 - 1 → mag (with_sign s n) < 2 ^ 63
 sign_in false n h = omega arith
@@ -128,5 +128,5 @@ charge-held l at = go (charged (part_of l at))
   where
     go : (b : Bool) → to_z w64 (of_z w64 (cond b (charge_of (get_or (part_of l at) 0 0) (get_or (part_of l at) 1 0)) (pos 0)))
         ≡ cond b (charge_of (get_or (part_of l at) 0 0) (get_or (part_of l at) 1 0)) (pos 0)
-    go true = to_z-of_z (record { sfits = charge_in (get_or (part_of l at) 0 0) (get_or (part_of l at) 1 0) })
+    go true = to_z-of_z {w = w64} (record { sfits = charge_in (get_or (part_of l at) 0 0) (get_or (part_of l at) 1 0) })
     go false = refl

@@ -8,4 +8,4 @@ use Rattle.account.proofs.head.put_front.Goals as goal
 pub slice_bounds-put_bytes-end : goal.slice_bounds-put_bytes-end
 slice_bounds-put_bytes-end c =
     let many = c.well_formed in
-    sym (length-take-le c.args.n c.args.t3 (omega arith))
+    sym (length-take-le c.args.n c.args.text (omega arith))

@@ -12,12 +12,12 @@ loop-i-preserved c =
     let l = c.loop-i in
     let many = c.well_formed in
     let next =
-    front-next (fault_row c.args.kind) c.args.t4 c.args.count (omega arith) l.i _ _ _ _ c.loop-i-test.true
+    front-next (fault_row c.args.kind) c.args.faults c.args.count (omega arith) l.i _ _ _ _ c.loop-i-test.true
     c.put_row-next.ensures l.invariant.2 in
     (search rules, search rules, next)
 
 pub returns : goal.returns
 returns c =
     let many = c.well_formed in
-    front-done (fault_row c.args.kind) c.args.t4 c.args.count (omega arith) c.loop-i.i _ _ c.loop-i-test.false
+    front-done (fault_row c.args.kind) c.args.faults c.args.count (omega arith) c.loop-i.i _ _ c.loop-i-test.false
     c.loop-i.invariant.2

@@ -12,10 +12,10 @@ loop-i-preserved c =
     let l = c.loop-i in
     let many = c.well_formed in
     let next =
-    each_next (row_bytes _) c.args.t4 l.i _ _ _ _ (omega arith) c.put_row-next.ensures l.invariant.2 in
+    each_next (row_bytes _) c.args.rows l.i _ _ _ _ (omega arith) c.put_row-next.ensures l.invariant.2 in
     (search rules, search rules, next)
 
 pub returns : goal.returns
 returns c =
     let many = c.well_formed in
-    each-done (row_bytes _) c.args.t4 c.loop-i.i _ _ (omega arith) c.loop-i.invariant.2
+    each-done (row_bytes _) c.args.rows c.loop-i.i _ _ (omega arith) c.loop-i.invariant.2

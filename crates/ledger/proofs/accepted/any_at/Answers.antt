@@ -27,4 +27,4 @@ loop-i-preserved c =
     any_next (is_at a.number a.low a.high) a.t1 _ _ c.loop-i.invariant _ test (omega arith) (sym c.is_at.ensures ∙ c.if-is_at.false)
 
 pub returns : goal.returns
-returns c = any-over (is_at c.args.number c.args.low c.args.high) c.args.t1 _ _ c.loop-i.invariant c.loop-i-test.false
+returns c = any-over (is_at c.args.number c.args.low c.args.high) c.args.list _ _ c.loop-i.invariant c.loop-i-test.false

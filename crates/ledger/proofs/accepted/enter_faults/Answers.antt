@@ -19,7 +19,7 @@ loop-i-preserved c =
     let many = c.well_formed in
     let few = c.requires in
     let test = c.loop-i-test.true in
-    faults-next _ _ _ c.args.t4 _ _ _ turn.invariant _ _ test (omega arith) (rw c.group_of.ensures at c.enter_fault.ensures)
+    faults-next _ _ _ c.args.list _ _ _ turn.invariant _ _ test (omega arith) (rw c.group_of.ensures at c.enter_fault.ensures)
 
 pub returns : goal.returns
-returns c = faults-end _ _ _ c.args.t4 _ _ _ c.loop-i.invariant c.loop-i-test.false
+returns c = faults-end _ _ _ c.args.list _ _ _ c.loop-i.invariant c.loop-i-test.false

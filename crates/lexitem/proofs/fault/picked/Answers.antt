@@ -8,4 +8,4 @@ use Rattle.lexitem.proofs.fault.picked.Goals as goal
 pub returns : goal.returns
 returns c =
     let whole = c.well_formed in
-    c.new.ensures ∙ sym (get_or-eq_default c.args.t1 _ (omega arith))
+    c.new.ensures ∙ sym (get_or-eq_default c.args.list _ (omega arith))

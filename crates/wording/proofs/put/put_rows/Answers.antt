@@ -24,7 +24,7 @@ loop-i-preserved c =
     let l = c.loop-i in
     let many = c.well_formed in
     let put = c.put_row-next.ensures in
-    let next = puts-next (row_words c.args.line.now) c.args.t4 _ _ l.i _ _ _ _ _ (omega arith) l.invariant.3 put in
+    let next = puts-next (row_words c.args.line.now) c.args.rows _ _ l.i _ _ _ _ _ (omega arith) l.invariant.3 put in
     (omega arith, search rules, two-more c.args.at l.i _ _ put (row-two _ _) l.invariant.2, next)
 
 pub shape_of-out : goal.shape_of-out
@@ -33,4 +33,4 @@ shape_of-out c = c.loop-i.invariant.1
 pub returns : goal.returns
 returns c =
     let many = c.well_formed in
-    puts-all (row_words c.args.line.now) c.args.t4 _ _ c.loop-i.i _ _ (omega arith) c.loop-i.invariant.3
+    puts-all (row_words c.args.line.now) c.args.rows _ _ c.loop-i.i _ _ (omega arith) c.loop-i.invariant.3
