@@ -47,6 +47,8 @@ unfolding rounded_to
 places-value q (fin t m e) s a c C v =
     let same : m * up e * 10 ^ q * c ≡ a * 10 ^ q * down e = rw (mul_right_comm (m * up e) (10 ^ q) c, v.1) (mul_right_comm a (down e) (10 ^ q)) in
     rw (v.0, closest_same (m * up e * 10 ^ q) (down e) (a * 10 ^ q) c (down_pos e) C same) refl
+places-value q nan s a c C v = elim v [ ]
+places-value q (inf _) s a c C v = elim v [ ]
 
 -- |v - N t| 2 ^ 53 ≤ N t, and N is far below 2 ^ 52
 half-off : (v n t : ℕ) → 0 < t → n < 10 ^ 10 → apart v (n * t) * 2 ^ 53 ≤ n * t → apart (n * t) v * 2 < t

@@ -17,7 +17,7 @@ returns-then-digits-eq0 c =
 pub put_decimal-requires-2 : goal.put_decimal-requires-2
 put_decimal-requires-2 c =
     let (few, is) = placed _ _ _ _ (sym c.round_to.ensures ∙ c.in-Rounded.is) in
-    (omega arith, places-few _ _ _ _ is)
+    record { q_bound = omega arith; n_bound = places-few _ _ _ _ is }
 
 pub returns : goal.returns
 returns c =

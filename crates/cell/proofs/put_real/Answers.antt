@@ -10,7 +10,7 @@ returns-in_default c = rw (sym c.round_to.ensures ∙ c.in_default.is) (record {
 pub put_decimal-requires : goal.put_decimal-requires
 put_decimal-requires c =
     let (few, is) = placed _ _ _ _ (sym c.round_to.ensures ∙ c.in-Rounded.is) in
-    (few, places-few _ _ _ _ is)
+    record { q_bound = few; n_bound = places-few _ _ _ _ is }
 
 pub returns : goal.returns
 returns c = rw (sym c.round_to.ensures ∙ c.in-Rounded.is) c.put_decimal.ensures

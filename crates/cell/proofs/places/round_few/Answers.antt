@@ -28,7 +28,7 @@ pub scaled-requires : goal.scaled-requires
 scaled-requires c =
     let q = c.args.places in
     let f : c.raised.result < 2 ^ 21 = rw c.raised.ensures (five_small q c.requires) in
-    (omega arith, (f, (omega arith, omega arith)))
+    record { digits_bound = omega arith; power_bound = f; le_shift = omega arith; shift_bound = omega arith }
 
 pub returns : goal.returns
 returns c =

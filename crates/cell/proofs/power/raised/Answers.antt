@@ -12,7 +12,7 @@ loop-i-init c = (search rules, power_none _)
 
 pub overflow_mul-n : goal.overflow_mul-n
 overflow_mul-n c =
-    let few = power_few c.args.base c.loop-i.n c.loop-i.i c.requires.0 (omega arith) c.loop-i.invariant.1 in
+    let few = power_few c.args.base c.loop-i.n c.loop-i.i c.requires.base_bound (omega arith) c.loop-i.invariant.1 in
     omega arith
 
 pub loop-i-preserved : goal.loop-i-preserved

@@ -18,4 +18,4 @@ pub returns : goal.returns
 returns c =
     let l = c.loop-left in
     let rest = rest_from l.i (9 - l.i) l.bytes (omega arith) in
-    c.put_bytes.ensures ∙ ap (put _) (rest ∙ last_done l.left l.rest _ _ c.loop-test.false l.invariant.3)
+    c.put_bytes.ensures ∙ ap (put _) (rest ∙ last_done l.left l.rest _ _ c.loop-left-test.false l.invariant.3)

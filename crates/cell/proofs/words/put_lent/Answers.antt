@@ -10,9 +10,9 @@ pub returns-then-bytes-width : goal.returns-then-bytes-width
 returns-then-bytes-width c = lent_other _ _ _ _ _ (λ e. omega arith) c.put_none.ensures
 
 pub returns-then-not-is_printable : goal.returns-then-not-is_printable
-returns-then-not-is_printable c = lent_odd _ _ _ _ _ (omega arith) (sym c.is_printable.ensures ∙ not-true _ c.if-not-is_printable.true) c.put_none-then-not-is_printable.ensures
+returns-then-not-is_printable c = lent_odd _ _ _ _ _ (omega arith) (sym c.is_printable.ensures ∙ c.if-not-is_printable.true) c.put_none-then-not-is_printable.ensures
 
 pub returns : goal.returns
 returns c =
-    let printed = sym c.is_printable.ensures ∙ not-false _ c.if-not-is_printable.false in
+    let printed = sym c.is_printable.ensures ∙ c.if-not-is_printable.false in
     lent-whole _ _ _ _ _ (omega arith) printed (record { puts = c.put_bytes.ensures; tells = refl })
