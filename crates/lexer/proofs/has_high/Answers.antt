@@ -11,13 +11,23 @@ use borrow.Author.Tests.{lt-ltb, le-ltb, ltb-true, ltb-false}
 use lib.ListN.{length, get_or}
 use lib.Dec.{ltb}
 use Rattle.lexer.specs.Refusals.{plain}
-use Rattle.lexer.proofs.Laws.Plain.{plain-low}
+use Rattle.lexer.proofs.Laws.Plain.{plain-high, plain-low}
+use Rattle.lexer.proofs.has_high.Invariants.{Seen}
 use Rattle.lexer.proofs.has_high.Goals as goal
+use Rattle.lexer.proofs.has_high.Goals.{then-line-i-gt127, else-line-i-gt127, then-line-behind-gt127, else-line-behind-gt127}
 
--- of the first i bytes, and of i from `behind` on
-abbrev Seen : List ℕ → ℕ → ℕ → Bool → Type 0
-Seen t behind i true = plain t < length t
-Seen t behind i false = (p : ℕ) → p < i → (get_or t p 0 ≤ 127) × (get_or t (behind + p) 0 ≤ 127)
+module _ (t : List ℕ) (behind i : ℕ) where
+  seen-high : (p : ℕ) (now : Bool) → p < length t → 127 < get_or t p 0 → now ≡ true → Seen t behind (i + 1) now
+  seen-high p now h b e = rw e (plain-high t p h b)
+
+  seen_low : (found now : Bool) → Seen t behind i found → get_or t i 0 ≤ 127 → get_or t (behind + i) 0 ≤ 127 → now ≡ found
+      → Seen t behind (i + 1) now
+  seen_low true now s a b e = rw e s
+  seen_low false now s a b e = rw e (λ p h. go p (ltb p i) refl h)
+    where
+      go : (p : ℕ) (x : Bool) → ltb p i ≡ x → p < i + 1 → (get_or t p 0 ≤ 127) × (get_or t (behind + p) 0 ≤ 127)
+      go p true f h = s p (ltb-true p i f)
+      go p false f h = let z : p ≡ i = omega (arith, ltb-false p i f) in rw z (a, b)
 
 seen_all : (t : List ℕ) (behind : ℕ) (found : Bool) → behind + 64 ≡ length t → length t ≤ 128 → Seen t behind 64 found
     → found ≡ ltb (plain t) (length t)
@@ -39,13 +49,13 @@ loop-i-preserved c =
     let t = c.args.line.now in
     let behind = length t - 64 in (
       search rules,
-      ⊎_elim
-          (λ w. seen-high t behind loop.i (behind + loop.i) _ (omega arith) w.0.taken w.1)
-          (λ w. ⊎_elim
-          (λ v. seen-high t behind loop.i loop.i _ (omega arith) v.0.taken (w.1 ∙ v.1))
-          (λ v. seen_low t behind loop.i loop.found _ loop.invariant.1 v.0.left w.0.left (w.1 ∙ v.1))
-          c.if-line-i-gt127.branch)
-          c.if-line-behind-gt127.branch,
+      elim c.if-line-behind-gt127.branch [
+        then-line-behind-gt127 w ↦ seen-high t behind loop.i (behind + loop.i) _ (omega arith) w.if-line-behind-gt127.true w.found-is
+      | else-line-behind-gt127 w ↦ elim c.if-line-i-gt127.branch [
+          then-line-i-gt127 v ↦ seen-high t behind loop.i loop.i _ (omega arith) v.if-line-i-gt127.true (w.found-is ∙ v.found-is)
+        | else-line-i-gt127 v ↦ seen_low t behind loop.i loop.found _ loop.invariant.1 v.if-line-i-gt127.false w.if-line-behind-gt127.false (w.found-is ∙ v.found-is)
+        ]
+      ],
     )
 
 pub returns : goal.returns

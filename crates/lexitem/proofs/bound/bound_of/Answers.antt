@@ -1,5 +1,6 @@
 -- `lexitem::bound::bound_of` meets its contract: each arm is what `describe` says of its kind, and the other kinds ask nothing.
 -- Assumes nothing.
+use borrow.Enum.Refused.{opened}
 use Rattle.lexitem.proofs.Laws.Kinds.{asks_nothing}
 use Rattle.lexitem.proofs.bound.bound_of.Goals as goal
 
@@ -22,4 +23,4 @@ pub returns-in-Ssbond : goal.returns-in-Ssbond
 returns-in-Ssbond c = rw c.in-Ssbond.is
 
 pub returns-in_default : goal.returns-in_default
-returns-in_default c = asks_nothing c.args.kind c.in_default.in_default-own.keys7
+returns-in_default c = asks_nothing c.args.kind (opened c.in_default.in_default-own.keys7)

@@ -6,18 +6,7 @@ use native.Mathlib.Omega.{arith}
 use lib.ListN.{length}
 use lib.Pow.{pow_pos}
 use Rattle.tally.proofs.Laws.Bits.{differing-end, turn-room, turn-again}
-use Rattle.tally.proofs.compare.bits_of.Reads as reads
-use Rattle.tally.proofs.compare.bits_of.Lts as lts
-use Rattle.tally.proofs.compare.unlike.Reads as unlike-reads
 use Rattle.tally.proofs.compare.bits_of.Goals as goal
-
--- one bit more has room
-turned-room : (c : lts.After-unlike (unlike-reads.Asked, unlike-reads.Learnt) reads.Pre reads.Post invariant-loop decreases-loop)
-    → c.unlike.result + 2 * c.before.before.before.before.loop.bits < 2 ^ 64
-turned-room c =
-    let l = c.before.before.before.before in
-    let p = l.before.before.before.requires in
-    turn-room _ _ _ _ p.0 p.1 c.before.before.before.loop-test.true l.loop.invariant _ c.unlike.ensures
 
 pub loop-i-init : goal.loop-i-init
 loop-i-init c =
@@ -38,10 +27,16 @@ pub bounds-said-i : goal.bounds-said-i
 bounds-said-i c = omega (arith, c.loop-i.invariant, c.loop-i-test.true)
 
 pub overflow_mul-bits : goal.overflow_mul-bits
-overflow_mul-bits c = let room = turned-room c in omega arith
+overflow_mul-bits c =
+    let p = c.requires in
+    let room = turn-room _ _ _ _ p.0 p.1 c.loop-i-test.true c.loop-i.invariant _ c.unlike.ensures in
+    omega arith
 
 pub overflow_add-bits : goal.overflow_add-bits
-overflow_add-bits c = let room = turned-room c in omega arith
+overflow_add-bits c =
+    let p = c.requires in
+    let room = turn-room _ _ _ _ p.0 p.1 c.loop-i-test.true c.loop-i.invariant _ c.unlike.ensures in
+    omega arith
 
 pub loop-i-smaller : goal.loop-i-smaller
 loop-i-smaller c = omega (arith, c.loop-i-test.true)

@@ -1,9 +1,6 @@
 -- `tally::compare::bits_of` meets its contract. The loop's invariant: the bits are those of the places from i on.
 -- Assumes nothing.
 use Rattle.tally.proofs.Laws.Bits.{Upto}
-use Rattle.tally.proofs.compare.bits_of.Reads as reads
-use Rattle.tally.proofs.compare.bits_of.Lts as lts
-use Rattle.tally.proofs.compare.unlike.Reads as unlike-reads
 use Rattle.tally.proofs.compare.bits_of.Given as goal
 
 abbrev pub invariant-loop-i : goal.invariant-loop-i

@@ -17,7 +17,7 @@ overflow_add-key c =
     omega (
       arith,
       key_room c.loop-i.i c.loop-i.key c.wide.result
-          c.loop-i-test.true c.loop-i.invariant.1 (omega (arith, c.wide.ensures, c.byte_or_blank.type-inv)),
+          c.loop-i-test.true c.loop-i.invariant.1 (omega (arith, c.wide.ensures, c.byte_or_blank.type_inv)),
     )
 
 pub loop-i-preserved : goal.loop-i-preserved
@@ -29,7 +29,7 @@ loop-i-preserved c =
     let v = c.loop-i.invariant in
     let e : i + 1 ≡ suc i = omega arith in (
       rw (e, key_more i l, ← v.0, ← b, ← w) refl,
-      key_next i c.loop-i.key c.wide.result v.1 (omega (arith, w, c.byte_or_blank.type-inv)),
+      key_next i c.loop-i.key c.wide.result v.1 (omega (arith, w, c.byte_or_blank.type_inv)),
       omega (arith, c.loop-i-test.true),
     )
 
