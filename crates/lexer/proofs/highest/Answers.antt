@@ -2,7 +2,6 @@
 -- Assumes nothing.
 use Prim.Native.Nat.{◌-◌}
 use mathlib.Core.Path.{◌≡◌, refl, sym, ◌∙◌}
-use mathlib.Core.Logic.{⊎_elim}
 use native.Mathlib.Omega.{arith}
 use lib.ListN.{length}
 use lib.Seq.{drop-length}
@@ -10,6 +9,7 @@ use Rattle.lexer.specs.Steps.{highest}
 use Rattle.lexer.proofs.Laws.Plain.{highest-more, highest-same}
 use borrow.Author.Rules.{rules}
 use Rattle.lexer.proofs.highest.Goals as goal
+use Rattle.lexer.proofs.highest.Goals.{then-most-b, else-most-b}
 
 pub loop-i-preserved : goal.loop-i-preserved
 loop-i-preserved c =
@@ -17,10 +17,10 @@ loop-i-preserved c =
     let t = c.args.line.now in
     let h = c.loop-i-test.true in (
       search rules,
-      l.invariant.1 ∙ ⊎_elim
-          (λ w. rw w.1 (highest-more t l.i l.most h w.0.taken))
-          (λ w. rw w.1 (highest-same t l.i l.most h w.0.left))
-          c.if-most-b.branch,
+      l.invariant.1 ∙ elim c.if-most-b.branch [
+        then-most-b w ↦ rw w.most-is (highest-more t l.i l.most h w.if-most-b.true)
+      | else-most-b w ↦ rw w.most-is (highest-same t l.i l.most h w.if-most-b.false)
+      ],
     )
 
 pub returns : goal.returns

@@ -28,6 +28,10 @@ mul_is f (fin p m e) (fin q n d) s t a b g k v w =
     rw (v.0, w.0)
     (round_same f (unlike s t) (m * up e * (n * up d)) (down e * down d) (a * b) (2 ^ (g + k)) (mul-pos (down_pos e) (down_pos d)) (pow_pos (g + k))
     (rw (pow-add 2 g k) (cross (m * up e) (n * up d) (down e) (down d) a b (2 ^ g) (2 ^ k) v.1 w.1)))
+mul_is f lib.Ieee.nan y s t a b g k v w = elim v [ ]
+mul_is f (lib.Ieee.inf _) y s t a b g k v w = elim v [ ]
+mul_is f (fin p m e) lib.Ieee.nan s t a b g k v w = elim w [ ]
+mul_is f (fin p m e) (lib.Ieee.inf _) s t a b g k v w = elim w [ ]
 
 -- ---- a sum
 -- n with the sign r is the sum of a with the sign s and b with the sign t
@@ -93,6 +97,10 @@ add_is f (fin p m e) (fin q n d) s t a b g v w =
     let two : B * 2 ^ g ≡ b * c = rw (mul_right_comm (n * up d) (down e) (2 ^ g), w.1) (rw (mul_comm (down e) (down d)) (mul_assoc b (down d) (down e))) in
     let (r, k, is, exact, within) = sums f A B a b c (2 ^ g) (mul-pos (down_pos e) (down_pos d)) (pow_pos g) one two s t in
     record { sign = r; size = k; is = rw (v.0, w.0) is; exact = exact; within = within }
+add_is f lib.Ieee.nan y s t a b g v w = elim v [ ]
+add_is f (lib.Ieee.inf _) y s t a b g v w = elim v [ ]
+add_is f (fin p m e) lib.Ieee.nan s t a b g v w = elim w [ ]
+add_is f (fin p m e) (lib.Ieee.inf _) s t a b g v w = elim w [ ]
 
 -- ---- rounded
 -- a number with its sign: x is R / 2 ^ g, and E off n with the sign s

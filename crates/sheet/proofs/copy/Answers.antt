@@ -11,7 +11,7 @@ pub loop-i-init : goal.loop-i-init
 loop-i-init c = (refl, omega arith)
 
 pub bounds-line-i : goal.bounds-line-i
-bounds-line-i c = omega (arith, c.requires.1, c.loop-i-test.true)
+bounds-line-i c = omega (arith, c.requires.line_len, c.loop-i-test.true)
 
 pub bounds-out-i : goal.bounds-out-i
 bounds-out-i c =
@@ -34,4 +34,4 @@ shape_of-out c =
 pub returns : goal.returns
 returns c =
     let held = c.loop-i.invariant in
-    held.0 ∙ copied_all c.args.line.now c.args.out.now c.loop-i.i c.requires.1 c.loop-i-test.false held.1
+    held.0 ∙ copied_all c.args.line.now c.args.out.now c.loop-i.i c.requires.line_len c.loop-i-test.false held.1
