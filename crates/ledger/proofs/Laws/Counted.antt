@@ -99,13 +99,13 @@ module _ (ws : List ℕ) (line g : ℕ) where
 faults-size : (ws : List ℕ) (line : ℕ) (k : Kind) (fs : List Fault) → length (with_faults ws line k fs) ≡ length ws
 unfolding with_faults
 faults-size ws line k [] = refl
-faults-size ws line k (f ∷ t) = faults-size _ line k t ∙ fault-size ws line (group_of k f.place)
+faults-size ws line k (f ∷ t) = faults-size (with_fault ws line (group_of k f.place)) line k t ∙ fault-size ws line (group_of k f.place)
 
 faults-low : (ws : List ℕ) (line : ℕ) (k : Kind) (fs : List Fault) (j : ℕ) → j < 9 → word (with_faults ws line k fs) j ≡ word ws j
 unfolding with_faults
 faults-low ws line k [] j h = refl
 faults-low ws line k (f ∷ t) j h =
-    faults-low _ line k t j h ∙ fault-other ws line (group_of k f.place) j (λ z. omega arith) (λ z. omega arith) (λ z. omega arith)
+    faults-low (with_fault ws line (group_of k f.place)) line k t j h ∙ fault-other ws line (group_of k f.place) j (λ z. omega arith) (λ z. omega arith) (λ z. omega arith)
 
 -- ---- by the kind
 module _ (ws : List ℕ) (k : ℕ) (off : Bool) where

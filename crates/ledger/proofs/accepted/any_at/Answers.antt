@@ -16,7 +16,7 @@ returns-then-is_at c =
     let many = c.well_formed in
     let few = c.requires in
     let test = c.loop-i-test.true in
-    any_here (is_at a.number a.low a.high) a.t1 _ _ c.loop-i.invariant _ test (omega arith) (sym c.is_at.ensures ∙ c.if-is_at.true)
+    any_here (is_at a.number a.low a.high) a.list _ _ c.loop-i.invariant _ test (omega arith) (sym c.is_at.ensures ∙ c.if-is_at.true)
 
 pub loop-i-preserved : goal.loop-i-preserved
 loop-i-preserved c =
@@ -24,7 +24,7 @@ loop-i-preserved c =
     let many = c.well_formed in
     let few = c.requires in
     let test = c.loop-i-test.true in
-    any_next (is_at a.number a.low a.high) a.t1 _ _ c.loop-i.invariant _ test (omega arith) (sym c.is_at.ensures ∙ c.if-is_at.false)
+    any_next (is_at a.number a.low a.high) a.list _ _ c.loop-i.invariant _ test (omega arith) (sym c.is_at.ensures ∙ c.if-is_at.false)
 
 pub returns : goal.returns
 returns c = any-over (is_at c.args.number c.args.low c.args.high) c.args.list _ _ c.loop-i.invariant c.loop-i-test.false
