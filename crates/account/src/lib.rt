@@ -1,6 +1,7 @@
 // What people read of a line that wasn't read whole: which line it is and whose, the line itself, and under the columns of each fault what was put
 // there; or why the line was refused.
 #![tactic(auto)]
+
 ghost use Rattle.std.specs.Prelude.{◌≡◌, ◌≤◌, min, take};
 ghost use Rattle.lexitem.specs.Fault.{told, faults_in};
 ghost use Rattle.page.specs.Page.{page, put};

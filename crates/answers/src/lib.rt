@@ -1,6 +1,7 @@
 // What C hosts are told of a line in numbers and bytes: here its listing, in `kinds` which kind it is, in `places` how many decimals were written.
 // Three functions tell of a listing's refusal; they take the lent bytes of the first, and only their number counts.
 #![tactic(auto)]
+
 ghost use Rattle.std.specs.Prelude.{◌≡◌};
 ghost use Rattle.packing.specs.Options.{input_of};
 ghost use Rattle.answers.specs.Face as specs;

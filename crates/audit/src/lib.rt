@@ -2,6 +2,7 @@
 // `found` they are one list of words, with a bit for each number that differs. In `watch` is what is known after some lines, and `feed` takes a
 // file in parts.
 #![tactic(auto)]
+
 ghost use Rattle.std.specs.Prelude.{◌≡◌};
 ghost use Rattle.audit.specs.Audit.{checked};
 

@@ -1,6 +1,7 @@
 // What the speed bench calls: every line of a lent file through `lex_line`, and a checksum of what came of it. A host that
 // reads the same fields can work out the same checksum, so that both are known to have done the same work.
 #![tactic(auto)]
+
 ghost use Rattle.std.specs.Prelude.{◌≡◌};
 ghost use Rattle.line.specs.Options.{plain};
 ghost use Rattle.lexer.specs.Lexed.{lexed};

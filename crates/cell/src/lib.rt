@@ -1,5 +1,6 @@
 // A number in so many columns of a line that is written. What doesn't fit puts blanks and is told, so that every cell fills its columns.
 #![tactic(auto)]
+
 ghost use Rattle.std.specs.Prelude.{◌≤◌, ◌<◌, ◌^◌};
 ghost use Rattle.cell.specs.Cell as specs;
 ghost use Rattle.cell.specs.Places.{places_of};

@@ -1,6 +1,7 @@
 // A file held against its MASTER line, as words for C hosts. A place in a file doesn't fit beside a refusal's number, so that two functions more tell
 // place and length.
 #![tactic(auto)]
+
 ghost use Rattle.std.specs.Prelude.{◌≡◌, ◌++◌, ◌≤◌, length, drop};
 ghost use Rattle.audit.specs.Audit.{checked};
 ghost use Rattle.findings.specs.Check as specs;

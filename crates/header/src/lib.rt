@@ -1,5 +1,6 @@
 // HEADER: the record with its columns, its reader and its rows.
 #![tactic(auto)]
+
 pub mod read;
 pub mod record;
 pub mod rows;

@@ -1,6 +1,7 @@
 // What a row of a listing looks like, byte for byte: a field's, a label's with its number or its three, and the
 // two that every listing begins with.
 #![tactic(auto)]
+
 ghost use Rattle.std.specs.Prelude.{◌≡◌};
 ghost use Rattle.layout.specs.Label.{head_rows, number_row, three_row};
 ghost use Rattle.page.specs.Page.{page, put};

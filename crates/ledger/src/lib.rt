@@ -1,5 +1,6 @@
 // What is counted of a file line by line, and the summary that people read.
 #![tactic(auto)]
+
 ghost use Rattle.std.specs.Prelude.{◌||◌, ◌≡◌, eqb};
 ghost use Rattle.ledger.specs.Ledger as specs;
 

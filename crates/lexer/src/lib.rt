@@ -1,6 +1,7 @@
 // What is asked of a line: `kind_line` its kind, `lex_line` its record and its faults, `read_line_as` the same as one of a kind. A line's refusals
 // come in document 01's order of testing.
 #![tactic(auto)]
+
 ghost use Rattle.std.specs.Prelude.{◌≡◌, ◌≤◌, ltb, length};
 ghost use Rattle.lexer.specs.Refusals as specs;
 ghost use Rattle.lexer.specs.Lexed.{lexed, lexed_as, kind_asked};

@@ -1,6 +1,7 @@
 // Lists the lines of its file `stdin`. A line that begins with `/` stands for its rest cut at every length from 0 to 81. The
 // file `stdout` was worked out apart from this program.
 #![tactic(auto)]
+
 ghost use Rattle.std.specs.Prelude.{◌+◌, ◌≤◌};
 
 use libc::{STDIN_FILENO, STDOUT_FILENO};

@@ -1,6 +1,7 @@
 // `list_line`: a line's listing into lent bytes. One emitter puts it, once on a byte of its own to measure it, and
 // then, if it fits, on the lent bytes. So lent bytes that are too few stay as they are.
 #![tactic(auto)]
+
 ghost use Rattle.std.specs.Prelude.{◌≡◌, ◌≤◌, length, take};
 ghost use Rattle.listing.specs.Listed as into;
 ghost use Rattle.listing.specs.Listing as specs;

@@ -1,6 +1,7 @@
 // Rows put to use: those of SCALE, ORIGX or MTRIX are collected by their numbers, and the matrix that three of them make is applied to a position.
 // Kinds and serials aren't told apart: who collects chooses which rows are handed in.
 #![tactic(auto)]
+
 ghost use Rattle.std.specs.Prelude.{◌≡◌};
 ghost use Rattle.matrix.specs.Apply as apply;
 ghost use Rattle.matrix.specs.Rows as specs;

@@ -1,6 +1,7 @@
 // Mending a line: bytes of 128 or more are made `?`, and a short ATOM or HETATM is padded with blanks to 80 if none of its fields is cut. What was
 // changed comes beside it.
 #![tactic(auto)]
+
 ghost use Rattle.std.specs.Prelude.{◌≡◌, ◌+◌, ◌≤◌, length, replicate};
 ghost use Rattle.std.proofs.lemmas.List.Edits.{sets};
 ghost use Rattle.mend.specs.Mending as specs;

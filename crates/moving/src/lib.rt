@@ -1,6 +1,7 @@
 // Rows collected for C hosts, and a position moved by them. The rows are lent: twelve doubles, row by row, and three bytes that say which
 // of them are set.
 #![tactic(auto)]
+
 ghost use Rattle.moving.specs.Matrix as specs;
 ghost use Rattle.std.specs.Prelude.{◌≡◌, ◌<◌, ◌≤◌, ◌+◌, length};
 

@@ -1,6 +1,7 @@
 // What fields are called, by kind and column; what was put where one wasn't read; and the groups of a summary. The table is held as numbers and as
 // words, in one order.
 #![tactic(auto)]
+
 ghost use Rattle.std.specs.Prelude.{◌≡◌, ◌/◌, ◌%◌, ◌<◌, length};
 ghost use Rattle.kind.specs.Kind.{number_of};
 ghost use Rattle.names.specs.Names as specs;

@@ -3,6 +3,7 @@
 // ten-thousandths, T as place and length, and E as the length that end-trimming leaves. `-` stands for a refusal. W
 // is the double of R as `cell` puts it into columns, with `!` behind it where it doesn't fit.
 #![tactic(auto)]
+
 use number::decimal::{Decimal, read_decimal};
 use number::trim::{read_text, trim_end};
 use number::whole::{Signed, Unsigned, read_signed, read_unsigned};

@@ -1,5 +1,6 @@
 // What C hosts say and are told in one number: a line's options as bits, and a refusal.
 #![tactic(auto)]
+
 ghost use Rattle.std.specs.Prelude.{◌≡◌};
 ghost use Rattle.packing.specs.Options.{mode_of, options_of};
 ghost use Rattle.packing.specs.Packed.{packed_in};

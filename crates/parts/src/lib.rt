@@ -1,6 +1,7 @@
 // Input in parts, as it comes: the reports of the lines that a part finishes, and what is held over of an unfinished one. Whoever feeds the parts
 // in order and then finishes has had the report of each line of the whole input once, whatever the cuts.
 #![tactic(auto)]
+
 ghost use Rattle.std.specs.Prelude.{◌≤◌, length, drop};
 ghost use Rattle.listing.specs.Listing.{longest};
 ghost use Rattle.parts.specs.Feed as specs;

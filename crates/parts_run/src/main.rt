@@ -2,6 +2,7 @@
 // one; feeds the parts, and holds what is put for them against what is put for the whole. It prints what is put for the whole, how many ways of
 // cutting there were, and for how many of them something else was put. The file `stdout` was worked out apart from this program.
 #![tactic(auto)]
+
 ghost use Rattle.std.specs.Prelude.{◌≤◌, length};
 
 use carry::held::Held;

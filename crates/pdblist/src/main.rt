@@ -1,5 +1,6 @@
 // Lists the lines of standard input.
 #![tactic(auto)]
+
 use stream::list_input;
 
 fn main() {

@@ -1,6 +1,7 @@
 // Holds standard input against its MASTER line, or says on standard error why it can't. It reads its input in parts, as they come, and keeps no more
 // of it than a line.
 #![tactic(auto)]
+
 ghost use Rattle.pdbmaster.specs.Came as specs;
 
 use audit::feed::{watch_last, watch_part};

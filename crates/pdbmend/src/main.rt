@@ -1,5 +1,6 @@
 // Mends standard input line by line onto standard output, and tells on standard error what was done, or why it can't go on.
 #![tactic(auto)]
+
 mod held;
 mod output;
 mod turn;

@@ -1,6 +1,7 @@
 // Says for standard input whether it was read, and where not: the account of each line that wasn't read whole, and at the end a summary; or says on
 // standard error why it can't. It reads its input in parts, as they come, and keeps no more of it than a line.
 #![tactic(auto)]
+
 ghost use Rattle.std.specs.Prelude.{◌≡◌};
 ghost use Rattle.pdbreport.specs.Fed as specs;
 

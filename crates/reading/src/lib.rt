@@ -1,6 +1,7 @@
 // A line read for C hosts: its fields and its faults, as words. Nearly every line of a file is an atom, and one goes from its reader to its words
 // without an answer between them, which would be copied.
 #![tactic(auto)]
+
 ghost use Rattle.std.specs.Prelude.{◌≡◌};
 ghost use Rattle.packing.specs.Options.{input_of, options_of};
 ghost use Rattle.reading.specs.Read as specs;

@@ -1,5 +1,6 @@
 // A line mended for C hosts. Of the lent words the first is the mended length and the second the number of changes; the changes follow.
 #![tactic(auto)]
+
 ghost use Rattle.std.specs.Prelude.{◌≡◌, ◌≤◌, length, take, drop};
 ghost use Rattle.mend.specs.Mending.{refusal_of, Mends};
 ghost use Rattle.remedy.specs.Mend as specs;

@@ -1,5 +1,6 @@
 // What `pdbmend` makes of a line: the line as it goes on, and a row for each change, or for why the line is left as it is.
 #![tactic(auto)]
+
 ghost use Rattle.std.specs.Prelude.{◌≡◌, ◌≤◌, length};
 ghost use Rattle.page.specs.Page.{page, put};
 ghost use Rattle.repair.specs.Repair as specs;

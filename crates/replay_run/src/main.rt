@@ -2,6 +2,7 @@
 // every fault that pdblist can show at every place, and `stdout` holds what the Rust answered for them; differential/README.md says how both
 // were made. The last file is empty.
 #![tactic(auto)]
+
 use stream::list_from;
 
 fn replay(path: &[u8]) {

@@ -1,5 +1,6 @@
 // What is printed for a line: its listing, or the rows of its refusal; and, in `fill`, for the lines of a file.
 #![tactic(auto)]
+
 ghost use Rattle.std.specs.Prelude.{◌≡◌, length};
 ghost use Rattle.page.specs.Page.{page, put};
 ghost use Rattle.report.specs.Report.{refused_rows, report_of};

@@ -5,6 +5,7 @@
 // call of the crate that does the work.
 // Three of the calls tell of a refusal; they take the lent bytes of the first, and only their number counts.
 #![tactic(auto)]
+
 ghost use Rattle.packing.specs.Options.{input_of};
 ghost use Rattle.answers.specs.Face as specs;
 

@@ -35,6 +35,7 @@
 // If the table doesn't lie within the first block, or the room is over 4,096, nothing is called: the reply's first word is 2^64-1, the others
 // are 0, and no output is sent. What is left of a block when it isn't a whole request has one such reply.
 #![tactic(auto)]
+
 ghost use Rattle.std.specs.Prelude.{◌+◌, ◌<◌, ◌≤◌, length};
 
 use lexer::lex_line;

@@ -1,6 +1,7 @@
 // A line of 80 bytes, drawn field by field on bytes of one's own and then copied whole. What doesn't fit is told at the end: a pen keeps the
 // columns of the first field that doesn't, so that no field needs a branch of its own.
 #![tactic(auto)]
+
 ghost use Rattle.std.specs.Prelude.{◌≡◌, ◌-◌, ◌≤◌, length, drop, ◌++◌};
 ghost use Rattle.cell.specs.Cell.{Puts};
 ghost use Rattle.cell.specs.Text.{blanks};

@@ -1,6 +1,7 @@
 // What the program `pdblist` does: it reads its input in parts, as they come, and prints the reports of the lines that a part finishes before it
 // waits for the next.
 #![tactic(auto)]
+
 use crate::input::{Got, read_some};
 use crate::output::{Went, print_last, print_part};
 use carry::held::Held;

@@ -1,6 +1,7 @@
 // A running tally of a file's lines by name: what MASTER says of them, counted. A line's name is looked up in `names`, and in `compare` the counts
 // are held against a MASTER.
 #![tactic(auto)]
+
 ghost use Rattle.std.specs.Prelude.{◌≡◌};
 ghost use Rattle.tally.specs.Tally as specs;
 

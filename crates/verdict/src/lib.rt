@@ -1,5 +1,6 @@
 // What `pdbmaster` prints for a file: a row for each of MASTER's numbers and one in words, or the rows of a refusal.
 #![tactic(auto)]
+
 ghost use Rattle.std.specs.Prelude.{◌≡◌, length};
 ghost use Rattle.page.specs.Page.{page, put};
 ghost use Rattle.verdict.specs.Verdict as specs;

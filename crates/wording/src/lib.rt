@@ -1,6 +1,7 @@
 // A record's fields as numbers of 64 bits in lent words: two for each field that is present. One number in front of them says how many there are,
 // and one in front of that which kind it is.
 #![tactic(auto)]
+
 ghost use Rattle.std.specs.Prelude.{◌≡◌, cond, ◌≤◌, length};
 ghost use Rattle.kind.specs.Kind.{number_of};
 ghost use Rattle.kind.specs.declared.Kind.TheVariants as kind;

@@ -1,5 +1,6 @@
 // A record goes out as a line of 80 bytes, in the columns and decimals of wwPDB 3.30.
 #![tactic(auto)]
+
 ghost use Rattle.std.specs.Prelude.{◌≡◌};
 ghost use Rattle.printer.specs.Sheets.{atom_sheet, anisou_sheet, cell_sheet};
 ghost use Rattle.layout.specs.Places.{places_of};

@@ -2,6 +2,7 @@
 // is lent is what the line has in an atom's columns. Behind a `/` the line is written into 79 bytes, and behind a `=` each real with as many
 // decimals as it was read with. A line that isn't read has `unread`. The file `stdout` was worked out apart from this program.
 #![tactic(auto)]
+
 use lexer::lex_line;
 use lexitem::answer::Outcome;
 use lexitem::item::LexItem;

@@ -1,5 +1,6 @@
 // Lines written for C hosts: numbers and byte slices alone, and one number for an answer.
 #![tactic(auto)]
+
 ghost use Rattle.printer.specs.Sheets as sheets;
 ghost use Rattle.writing.specs.Write as specs;
 ghost use Rattle.std.specs.Prelude.{◌≡◌};

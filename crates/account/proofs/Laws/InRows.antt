@@ -1,7 +1,7 @@
 -- A row that an entry shows is one of the record's.
 --     In                    a row is in a list
---     left_in, right-in     and so in a longer one
---     record-in             one that shows something, of those that the kind's table shows, is a row of the record
+--     left_in, right_in     and so in a longer one
+--     record_in             one that shows something, of those that the kind's table shows, is a row of the record
 -- Assumes nothing.
 use Prim.Native.Nat.{ℕ}
 use mathlib.Core.Path.{◌≡◌, refl}

@@ -1,6 +1,6 @@
 -- What was put where a field wasn't read.
 --     Put           the record has a row for the fault's field, whose value is called what the fault's row says
---     put-there     so it is for every fault of a line that the program reads
+--     put_there     so it is for every fault of a line that the program reads
 -- Assumes nothing.
 use Prim.Native.Nat.{ℕ}
 use mathlib.Core.Path.{◌≡◌, refl}

@@ -1,5 +1,5 @@
 -- What an account tells.
---     told-once     cut at its LFs, the account of a line with faults is its first row, the line, and a row for each fault, in their order
+--     told_once     cut at its LFs, the account of a line with faults is its first row, the line, and a row for each fault, in their order
 --     quiet         an accepted line's account is empty exactly when it has no fault
 -- Assumes nothing.
 use Prim.Native.Nat.{ℕ, suc, ◌+◌, ◌-◌, ◌/◌, ◌%◌, min}

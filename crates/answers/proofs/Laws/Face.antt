@@ -1,5 +1,5 @@
 -- What the entries make of the answer of `list_line` and of `measure_line`.
---     written-into, refused-into      the first call's answer
+--     written_into, refused_into      the first call's answer
 --     no-refusal, a-refusal           the refusal that the others tell of
 -- Assumes nothing.
 use Prim.Native.Nat.{ℕ}

@@ -1,8 +1,8 @@
 -- "For every way of cutting the input": what is known behind parts is what is known after the lines that they finish, and what is answered at the end
 -- is what the definition says of the whole.
 --     Reached, part-reached     a part behind a piece that is held
---     cuts-known                all parts, and then the end: the lines of the whole
---     cuts-checked              so the answer is the whole's
+--     cuts_known                all parts, and then the end: the lines of the whole
+--     cuts_checked              so the answer is the whole's
 -- Assumes nothing.
 use Prim.Native.Nat.{ℕ, suc, ◌+◌, ◌-◌, ◌^◌, ◌≤◌, ◌<◌}
 use mathlib.Core.Path.{◌≡◌, refl, sym, ap, ◌∙◌}

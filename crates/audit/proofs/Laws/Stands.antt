@@ -1,6 +1,6 @@
 -- Where lines stand in their file.
 --     placed-texts      the lines that are placed are the file's, in order
---     masters-stand     and each MASTER line among them stands in the file from where it is said to start
+--     masters_stand     and each MASTER line among them stands in the file from where it is said to start
 -- Assumes nothing.
 use Prim.Native.Nat.{ℕ, zero, suc, ◌+◌, ◌-◌, ◌≤◌}
 use mathlib.Core.Path.{◌≡◌, refl, ap, ◌∙◌}

@@ -1,10 +1,10 @@
 -- The laws over the code's steps.
 --     turn_end, turn-next, turn-moves           a turn of the loop over a file's lines
 --     first-long, first-unread, first-numbers   the first MASTER line, by its length and by what it says
---     rest-watches                              the rest of a part before which nothing is held
+--     rest_watches                              the rest of a part before which nothing is held
 --     part_free, part_held, part-ended          a part: nothing is held, no LF ends the line that is, or one does
 --     last_empty, last_some                     the end of the input
---     watches-one                               the contract of `watch_part` leaves nothing free
+--     watches_one                               the contract of `watch_part` leaves nothing free
 -- Assumes nothing.
 use Prim.Native.Nat.{ℕ, suc, ◌+◌, ◌-◌, ◌≤◌, ◌<◌}
 use mathlib.Core.Path.{◌≡◌, refl, sym, ap, ◌∙◌}

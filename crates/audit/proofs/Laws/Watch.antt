@@ -1,7 +1,7 @@
 -- What is known after lines is what the definitions say of them.
 --     long-unread       a line over 1,024 bytes can't be read, so that no more of it than a front has to be at hand
 --     watch-known       after any lines that take up fewer than 2^64 bytes
---     prefix-known      "after every prefix of the file"
+--     prefix_known      "after every prefix of the file"
 --     judged-known, checked-watched     and so what is answered after the last line is what the definition says of the whole file
 -- Assumes nothing.
 use Prim.Native.Nat.{ℕ, ◌+◌, ◌^◌, ◌≤◌, ◌<◌}

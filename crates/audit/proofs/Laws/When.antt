@@ -1,11 +1,11 @@
 -- When the checker answers what, in words of the file's lines.
 --     masters-counted                       as many MASTER lines are found as the file has
---     ten-when, eleven-when, twelve-when    10 exactly when no line is a MASTER line; 11 exactly when there are two or more; 12 exactly when there is
+--     ten_when, eleven_when, twelve_when    10 exactly when no line is a MASTER line; 11 exactly when there are two or more; 12 exactly when there is
 --                                           one that can't be read
---     checked-when                          nothing is refused exactly when there is one that can
---     eleven-where, twelve-where            the place and the length are the second one's, and the one's
+--     checked_when                          nothing is refused exactly when there is one that can
+--     eleven_where, twelve_where            the place and the length are the second one's, and the one's
 --     compared_is                           what is handed out: the count over all lines, and what the line says
---     bit-when                              bit n is set exactly when the n-th number of the MASTER line isn't the count
+--     bit_when                              bit n is set exactly when the n-th number of the MASTER line isn't the count
 -- Assumes nothing.
 use Prim.Native.Nat.{ℕ, zero, suc, ◌+◌, ◌≤◌, ◌<◌}
 use mathlib.Core.Path.{◌≡◌, refl, sym, ap, ◌∙◌, subst}

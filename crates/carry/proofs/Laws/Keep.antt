@@ -1,6 +1,6 @@
 -- A turn of the loop that keeps the bytes up to an LF.
 --     keep-made                                what a byte leaves
---     absorb-here, absorb-next, absorb-none    at the LF, at another byte, and at the end
+--     absorb_here, absorb_next, absorb_none    at the LF, at another byte, and at the end
 -- Assumes nothing.
 use Prim.Native.Nat.{ℕ, ◌+◌, ◌≤◌, ◌<◌, min}
 use mathlib.Core.Path.{◌≡◌, refl}

@@ -2,7 +2,7 @@
 --     texts-append, taken-append     stretches behind stretches
 --     passed-split, left_split       a part in two is two parts
 --     Free                           a piece has no LF
---     piece-last, piece-ended        a piece alone is the last line, and one that an LF ends is the first
+--     piece_last, piece_ended        a piece alone is the last line, and one that an LF ends is the first
 --     stretches-fed, lines-fed       the lines of a piece with bytes behind it: those that they finish, and the last piece's
 --     left-length                    what is left is some of what came
 --     texts-of, taken_of             the stretches of a file are its lines, and take up no more bytes than it has

@@ -1,5 +1,5 @@
 -- Laws of a number in so many columns.
---     puts-fit, puts-not     what a put of a text answers, by the text's length
+--     puts-fit, puts_not     what a put of a text answers, by the text's length
 --     cell-back              a double that was read of M over 10 ^ p, with no more places than are written, reads back as the same double
 --     cell-own               in as many places as it was read with, the digits themselves fit, and the cell says the same sign, M and p
 --     factor-cell            one of ANISOU's six reads back as the same integer

@@ -1,5 +1,5 @@
 -- The nearest whole number to a fraction, a tie to the even one.
---     closest-is                           what is less than half a unit off is the nearest
+--     closest_is                           what is less than half a unit off is the nearest
 --     closest-below, closest-tie, closest-above    the nearest number by the quotient and what is left
 -- Assumes nothing.
 use mathlib.Core.Path.{◌≡◌, refl, sym, ap, ◌∙◌}

@@ -4,7 +4,7 @@
 --     written_back, written_same           so does the double that was read of M over 10 ^ p, and what is written reads as the same double
 --     places-own                           in as many places as it was read with, M comes back as it was
 --     places-again                         what is written, read and written again, is the same
---     placed, places-are                   what has so many places has no more than nine, and of nine or less it is the nearest decimal
+--     placed, places_are                   what has so many places has no more than nine, and of nine or less it is the nearest decimal
 -- Assumes nothing.
 use mathlib.Core.Path.{◌≡◌, refl, sym, ap, ◌∙◌}
 use Prim.Native.Nat.{ℕ, suc, ◌+◌, ◌-◌, ◌*◌, ◌^◌, ◌≤◌, ◌<◌}

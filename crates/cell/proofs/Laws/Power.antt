@@ -1,7 +1,7 @@
 -- Small powers, multiplied out one by one.
---     power-none     none at all gives one
---     power-next     one more multiplication gives the next power
---     power-few      of a base up to ten, nine times and no more: the next product is small
+--     power_none     none at all gives one
+--     power_next     one more multiplication gives the next power
+--     power_few      of a base up to ten, nine times and no more: the next product is small
 -- Assumes nothing.
 use Prim.Native.Nat.{ℕ, ◌+◌, ◌*◌, ◌^◌, ◌≤◌, ◌<◌}
 use mathlib.Core.Path.{◌≡◌, refl, sym}

@@ -2,8 +2,8 @@
 --     printable-low, -high, -next, -done     a text's bytes, one by one
 --     left-full                              a text that fills its columns
 --     words_long, -odd, -left, -right        what a put of a text answers
---     lent_other, lent-odd, lent-whole       what a put of a text that is to fill its columns answers
---     row-fit, row-not                       what a put of a row answers
+--     lent_other, lent_odd, lent-whole       what a put of a text that is to fill its columns answers
+--     row-fit, row_not                       what a put of a row answers
 --     charge-below, -above, -none            a charge is a number with its sign behind it
 --     marked-front                           such a number on bytes of our own
 -- Assumes nothing.

@@ -1,6 +1,6 @@
 -- A plain decimal is read the same with the option for exponents on, and what is none is read with its exponent.
 --     plain-fine, value-either     a real that is fine with the option off
---     exponent-fine                one that isn't
+--     exponent_fine                one that isn't
 --     table-either                 a table of fine fields is fine with the option on
 -- Assumes nothing.
 use Prim.Native.Nat.{ℕ}

@@ -1,8 +1,8 @@
 -- How many faults a table has at most.
 --     Ends           a line has n bytes or more, or fewer
 --     silent         an entry that then has no fault
---     entry-most     any other has one at most
---     entry-one      so an entry has one at most, whatever the line
+--     entry_most     any other has one at most
+--     entry_one      so an entry has one at most, whatever the line
 --     loud           how many entries of a table aren't silent
 --     table-most     so many faults it has at most
 -- Assumes nothing.

@@ -3,8 +3,8 @@
 --     unsigned-none, ..          which says no number
 --     two-columns                where two bytes stand, there are two columns
 --     signed-held, charge-held   a signed field comes back from its bits
---     span-within                a trimmed text lies in its part
---     whole-span, whole-text     it is the part where that begins and ends with a byte over 32
+--     span_within                a trimmed text lies in its part
+--     whole_span, whole-text     it is the part where that begins and ends with a byte over 32
 -- Assumes nothing.
 use Prim.Native.Nat.{ℕ, zero, suc, ◌+◌, ◌-◌, ◌^◌, ◌≤◌, ◌<◌}
 use mathlib.Core.Path.{◌≡◌, refl, sym, ap, ◌∙◌}

@@ -1,6 +1,6 @@
 -- Laws of fields that are fine and of those that aren't.
 --     fine-none                               a fine field has no fault
---     number-one, text-one, character-one     one that isn't has one, the defined one
+--     number-one, text-one, character_one     one that isn't has one, the defined one
 --     places-few, fine-read                   a real has nine places at most, so that 255 tells that it isn't fine
 --     unread-none                             where it isn't, it has none
 --     fine-is, fine-says                      a real is fine where its text says one

@@ -1,7 +1,7 @@
 -- Fields whose columns were read as a word are what they are by any reading. The steps are those of a caller: the columns' part, its word,
 -- what was read of it, and the field.
---     eight-fine, six-fine     a decimal of eight columns, and of six
---     four-fine, five-fine     a signed number of four columns, and an unsigned one of five
+--     eight_fine, six-fine     a decimal of eight columns, and of six
+--     four-fine, five_fine     a signed number of four columns, and an unsigned one of five
 -- Assumes nothing.
 use Prim.Native.Nat.{ℕ, ◌+◌, ◌*◌, ◌/◌, ◌^◌, ◌<◌}
 use mathlib.Core.Path.{◌≡◌, refl, sym, ap, ◌∙◌}

@@ -1,7 +1,7 @@
 -- Laws of the entry that holds a file against its MASTER line.
 --     words-next, words-all                     words put one after the other
---     finds-refused, finds-short, finds-all     what is answered, by what the checker says
---     finds-one                                 that is one number, with one content of all words that are lent
+--     finds_refused, finds_short, finds_all     what is answered, by what the checker says
+--     finds_one                                 that is one number, with one content of all words that are lent
 -- Assumes nothing.
 use Prim.Native.Nat.{ℕ, suc, ◌+◌, ◌≤◌, ◌<◌}
 use mathlib.Core.Path.{◌≡◌, refl, sym, ap, ◌∙◌}

@@ -1,7 +1,7 @@
 -- Laws of the number of a text.
 --     key_more          one byte more of a text's front: the number's next digit
 --     Bytes, is_bytes    the numbers of a line are bytes, and a test of that for a text
---     key-lt            the number of n bytes is below 256 ^ n
+--     key_lt            the number of n bytes is below 256 ^ n
 --     bytes-front       the front of a line passes the test
 --     first_byte        so its first is a byte, and the rest are
 --     same_key          texts of one length are the same when their numbers are

@@ -1,10 +1,10 @@
 -- Laws of the names and their kinds.
 --     are_names         whether each name of a table is w bytes: `tt` proves it of those there are
 --     names-six        so are those that count, under atoms only or not
---     kind-by-key      a name is found by its number
---     kind-by-front    so is the front of a line
+--     kind_by_key_lem      a name is found by its number
+--     kind-by_front    so is the front of a line
 --     same_whole       a whole line is a name when their numbers are the same
---     key-found        what a `match` finds at a number
+--     key_found        what a `match` finds at a number
 --     none_found       what a `match` leaves to its last arm
 -- Assumes nothing.
 use Prim.Native.Nat.{ℕ, ◌≤◌}

@@ -3,7 +3,7 @@
 --     first-split      tests in front of others, as one refusal
 --     own-tests        those from 4 to 6, and what is accepted behind them
 --     lexed-split      a line's record: 1 to 3, and then those
---     as-split         as one of a kind: 15 between them
+--     as_split         as one of a kind: 15 between them
 --     asked-split      its kind: 2 and 3
 -- Assumes nothing.
 use Prim.Native.Nat.{ℕ, ◌-◌}

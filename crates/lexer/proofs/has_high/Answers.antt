@@ -50,10 +50,10 @@ loop-i-preserved c =
     let behind = length t - 64 in (
       search rules,
       elim c.if-line-behind-gt127.branch [
-        then-line-behind-gt127 w ↦ seen-high t behind loop.i (behind + loop.i) _ (omega arith) w.if-line-behind-gt127.true w.found-is
-      | else-line-behind-gt127 w ↦ elim c.if-line-i-gt127.branch [
-          then-line-i-gt127 v ↦ seen-high t behind loop.i loop.i _ (omega arith) v.if-line-i-gt127.true (w.found-is ∙ v.found-is)
-        | else-line-i-gt127 v ↦ seen_low t behind loop.i loop.found _ loop.invariant.1 v.if-line-i-gt127.false w.if-line-behind-gt127.false (w.found-is ∙ v.found-is)
+        | then-line-behind-gt127 w ↦ seen-high t behind loop.i (behind + loop.i) _ (omega arith) w.if-line-behind-gt127.true w.found-is
+        | else-line-behind-gt127 w ↦ elim c.if-line-i-gt127.branch [
+          | then-line-i-gt127 v ↦ seen-high t behind loop.i loop.i _ (omega arith) v.if-line-i-gt127.true (w.found-is ∙ v.found-is)
+          | else-line-i-gt127 v ↦ seen_low t behind loop.i loop.found _ loop.invariant.1 v.if-line-i-gt127.false w.if-line-behind-gt127.false (w.found-is ∙ v.found-is)
         ]
       ],
     )

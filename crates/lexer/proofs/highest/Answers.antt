@@ -18,8 +18,8 @@ loop-i-preserved c =
     let h = c.loop-i-test.true in (
       search rules,
       l.invariant.1 ∙ elim c.if-most-b.branch [
-        then-most-b w ↦ rw w.most-is (highest-more t l.i l.most h w.if-most-b.true)
-      | else-most-b w ↦ rw w.most-is (highest-same t l.i l.most h w.if-most-b.false)
+        | then-most-b w ↦ rw w.most-is (highest-more t l.i l.most h w.if-most-b.true)
+        | else-most-b w ↦ rw w.most-is (highest-same t l.i l.most h w.if-most-b.false)
       ],
     )
 

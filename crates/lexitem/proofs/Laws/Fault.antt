@@ -1,6 +1,6 @@
 -- The faults that an answer tells of.
 --     told-stamped            those of a reader, each with its line and kind
---     in-stamped              and what they say of their columns is what it was
+--     in_stamped              and what they say of their columns is what it was
 --     told_at                 the n-th of them
 -- Assumes nothing.
 use Prim.Native.Nat.{ℕ, suc, ◌<◌}

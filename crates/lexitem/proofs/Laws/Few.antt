@@ -1,6 +1,6 @@
 -- "ANISOU can give fifteen faults and no kind gives more": on every line, in either mode. An ANISOU has sixteen fields; its charge faults only from
 -- 80 bytes on, and its texts only before.
---     faults-fifteen     a line of a kind has at most fifteen faults
+--     faults_fifteen     a line of a kind has at most fifteen faults
 -- Assumes nothing.
 use Prim.Native.Nat.{◌≤◌}
 use mathlib.Core.Path.{◌≡◌, refl}

@@ -1,7 +1,7 @@
 -- What goes kind by kind, all of it by computing.
---     each_table, by-table     a test that every kind's table passes in both modes, with its part and without, is passed by any kind's
+--     each_table, by_table     a test that every kind's table passes in both modes, with its part and without, is passed by any kind's
 --     Shows, fields-shown     a record's rows are what its kind's table shows, in ascending columns, none forgotten and none added
---     rows-sixteen            a record has no more than sixteen rows
+--     rows_sixteen            a record has no more than sixteen rows
 --     no-atom                 a record but the one that a `match` names is no atom
 --     asks_nothing            a kind but the six that a `match` names asks nothing of its line
 -- Assumes nothing.

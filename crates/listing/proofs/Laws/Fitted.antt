@@ -1,6 +1,6 @@
 -- What a listing leaves on lent bytes. It is measured first, by a put on other bytes.
---     measured-no, measured-yes     what is answered by its length: too long, and short enough
---     fitted-no, fitted-yes         what is left then on the lent bytes
+--     measured-no, measured_yes     what is answered by its length: too long, and short enough
+--     fitted_no, fitted_yes         what is left then on the lent bytes
 --     fits                          what was measured short enough has room
 -- Assumes nothing.
 use Prim.Native.Nat.{ℕ, ◌^◌, ◌≤◌, ◌<◌}

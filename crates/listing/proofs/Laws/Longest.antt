@@ -1,6 +1,6 @@
 -- The longest listing, so that a host knows what to lend.
---     listing-some        no listing is empty
---     listing-longest     the listing of an accepted line has at most 4,096 bytes
+--     listing_some        no listing is empty
+--     listing_longest     the listing of an accepted line has at most 4,096 bytes
 -- A row is at most as long as its columns allow; SEQADV, whose comment goes to the end of a line of up to 1,024 bytes, has the most room.
 -- Assumes nothing.
 use Prim.Native.Nat.{ℕ, ◌+◌, ◌*◌, ◌≤◌, ◌<◌}

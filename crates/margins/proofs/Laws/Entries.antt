@@ -4,8 +4,8 @@
 --     level          lines of one length are level to every field
 --     Agree          the lines agree on a field's columns
 --     Same           the field has the same value in both, whether exponents are taken or not
---     same-entry     lines that agree on a field's columns give it the same value
---     fault-entry    and the same faults
+--     same_entry     lines that agree on a field's columns give it the same value
+--     fault_entry    and the same faults
 --     AgreeOn, AllSame, same-table, fault-table    so for a table
 --     or_left, or_right    one of two is so
 -- The laws by entry ask of the lengths only what the field asks, so that they serve lines of unequal length too.

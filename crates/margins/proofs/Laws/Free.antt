@@ -2,7 +2,7 @@
 -- and mode, are exactly those of `free`, at every column from the seventh on.
 --     takes-beyond      behind its last column a field takes nothing, or everything if it ends with the line
 --     given-beyond      so what is given of column 80 is given of all behind it, in every kind
---     free-exactly      a column is given to a field of a kind exactly where `free` doesn't have it
+--     free_exactly      a column is given to a field of a kind exactly where `free` doesn't have it
 -- Assumes nothing.
 use Prim.Native.Nat.{ℕ, zero, suc, ◌+◌, ◌<◌, ◌≤◌}
 use mathlib.Core.Path.{◌≡◌, refl, sym, ap, ◌∙◌, subst}

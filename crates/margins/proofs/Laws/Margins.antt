@@ -2,10 +2,10 @@
 -- asked of it, with the same record, faults or refusal.
 --     kinds-same       it has the same kind
 --     faults-same      the same faults
---     items-same       the same record
+--     items_same       the same record
 --     tests_same       each refusal is given to both, or to neither
 --     margins          so the answer is the same
---     margins-as       as a line of any kind that is handed in
+--     margins_as       as a line of any kind that is handed in
 --     margins-kind     and when its kind alone is asked
 -- Assumes nothing.
 use Prim.Native.Nat.{ℕ}

@@ -1,6 +1,6 @@
 -- Two lines that agree on columns have the same bytes there.
---     inside-in      a column between two is inside
---     slice-same     a part of the same length
+--     inside_in      a column between two is inside
+--     slice_same     a part of the same length
 --     part_same      what stands in columns that both lines reach, or neither
 --     reached-same   what lines of one length reach of columns
 --     rest-same      and what stands from a column on

@@ -1,5 +1,5 @@
 -- A record holds what its table's fields hold.
---     part-decided   lines that agree on what decides it both have the part that only some have, or neither
+--     part_decided   lines that agree on what decides it both have the part that only some have, or neither
 --     item-same      a kind's record is the same where each field of its table has the same value
 -- Assumes nothing.
 use Prim.Native.Nat.{ℕ}

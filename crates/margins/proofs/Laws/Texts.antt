@@ -3,7 +3,7 @@
 --     part-le, reached-le    a part is no longer than its columns are wide
 --     Alike             a view shows the same in both lines
 --     within_same       the bytes at a place
---     text-alike, character-alike, optional-alike    a text, a C, and one whose blank means absent
+--     text-alike, character_alike, optional_alike    a text, a C, and one whose blank means absent
 --     text-level        a text of columns that both lines reach, or neither, ends in both or in neither
 -- Assumes nothing.
 use Prim.Native.Nat.{ℕ, ◌+◌, ◌-◌, ◌<◌, ◌≤◌}

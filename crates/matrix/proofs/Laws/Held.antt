@@ -1,7 +1,7 @@
 -- What a field of a line holds is held: a double that is near a written number, and the default 0.0.
 --     near-held                    a double near a number of up to ten digits, times a power of ten up to 10 ^ 22 or over one
 --     real-held                    so every real that a text says, with an exponent or without
---     position-held, row-held      and the positions and rows of any line, read with faults or without
+--     position_held, row-held      and the positions and rows of any line, read with faults or without
 -- Assumes nothing.
 use mathlib.Core.Path.{◌≡◌, refl}
 use Prim.Native.Nat.{ℕ, zero, suc, ◌+◌, ◌*◌, ◌^◌, ◌≤◌, ◌<◌}

@@ -1,9 +1,9 @@
 -- Rows by the tests that the code makes, and what collecting them comes to.
---     row-far, all_set                by the tests: no row above 2, and a matrix of three that are set
+--     row_far, all_set                by the tests: no row above 2, and a matrix of three that are set
 --     refused-row                     13 exactly for a number above 2, and the rows are then as they were
---     later-stands, others-stay       a kept row is the one of its number, whatever was there, and the others are as they were
+--     later_stands, others_stay       a kept row is the one of its number, whatever was there, and the others are as they were
 --     handed-set                      a matrix that is handed out has the three rows that are set
---     refused-unset, unset-refused    14 exactly where a row is unset
+--     refused_unset, unset_refused    14 exactly where a row is unset
 -- Assumes nothing.
 use mathlib.Core.Path.{◌≡◌, refl}
 use mathlib.Core.Logic.{◌≢◌}

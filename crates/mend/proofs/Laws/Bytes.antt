@@ -1,5 +1,5 @@
 -- Laws of the bytes that are mended.
---     byte_low, byte-kept      a mended byte is below 128, and one that is below stays
+--     byte_low, byte_kept      a mended byte is below 128, and one that is below stays
 --     questioned-length, questioned-at, questioned-low, questioned-same, questioned-append
 --     kind-questioned          no kind's name has a byte that is mended or made
 -- Assumes nothing.

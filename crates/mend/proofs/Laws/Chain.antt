@@ -1,7 +1,7 @@
 -- The steps of the code, each with what it was told.
---     byte-kept, byte-marked      a byte below 128, and any other
---     or-found, or-before,        columns that were found before; a line that ends before these, behind them, and inside them
---     or-behind, or-inside
+--     byte_kept, byte_marked      a byte below 128, and any other
+--     or_found, or_before,        columns that were found before; a line that ends before these, behind them, and inside them
+--     or_behind, or_inside
 --     basics-chain, field-chain   the fields of a table one after the other; a single column has no step, since it isn't cut
 -- Assumes nothing.
 use Prim.Native.Nat.{ℕ, ◌<◌, ◌≤◌}

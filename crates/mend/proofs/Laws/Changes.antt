@@ -1,10 +1,10 @@
 -- Laws of the list of changes.
---     changes-few         512 suffice
---     changes-again       a mended line has none
+--     changes_few         512 suffice
+--     changes_again       a mended line has none
 --     named-high          before the line's end they name the bytes of 128 or more, and no other
 --     named-padding       behind it, the blanks that were put there
 --     named-beyond        and nothing further
---     unnamed-same        a place that isn't named has the same byte, or none in both
+--     unnamed_same        a place that isn't named has the same byte, or none in both
 --     undone              undoing gives back the line but for its bytes of 128 or more
 --     undone-length, undone-at    so its length, and every byte that isn't named
 -- Assumes nothing.

@@ -1,9 +1,9 @@
 -- The field that is found to be cut.
---     one-uncut      a single column isn't cut: alternate-uncut, chain-uncut, insertion-uncut
+--     one_uncut      a single column isn't cut: alternate_uncut, chain_uncut, insertion_uncut
 --     cut-found      columns are found exactly when a field of the table is cut
 --     cut-is         and they are cut
 --     cut-told       so for ATOM's table
---     left-when      a line is left cut exactly when it is an ATOM or HETATM of which a field is cut
+--     left_when      a line is left cut exactly when it is an ATOM or HETATM of which a field is cut
 --     left_is        and the columns that are told are cut
 -- Assumes nothing.
 use Prim.Native.Nat.{ℕ, suc}

@@ -1,6 +1,6 @@
 -- The list as it is held.
 --     replaced-apart      between two runs of replaced bytes stands a byte: neighbours with the same mend are one
---     noted-sets          noted one after the other, they are stored one behind the other
+--     noted_sets          noted one after the other, they are stored one behind the other
 --     held_all            512 words hold them all, in their order, and what follows stays the same
 -- Assumes nothing.
 use Prim.Native.Nat.{ℕ, suc, ◌+◌, ◌-◌, ◌<◌, ◌≤◌}

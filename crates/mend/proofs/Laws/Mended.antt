@@ -3,8 +3,8 @@
 --     mended-length
 --     mended-front, mended-behind   what it holds, byte for byte
 --     mended-twice                  mending twice changes nothing more
---     padded-when                   a line is padded exactly when it is a short ATOM or HETATM of which no field is cut
---     pad-cut, pad-atom, pad-other, pad-within    the padding in the code's own steps
+--     padded_when                   a line is padded exactly when it is a short ATOM or HETATM of which no field is cut
+--     pad_cut, pad_atom, pad_other, pad_within    the padding in the code's own steps
 -- Assumes nothing.
 use Prim.Native.Nat.{ℕ, zero, suc, ◌+◌, ◌-◌, ◌<◌, ◌≤◌}
 use mathlib.Core.Path.{◌≡◌, refl, ap, ◌∙◌}

@@ -1,9 +1,9 @@
 -- The steps of the code.
 --     line-next, line-done        one byte further in the line that is put
 --     blanks-next, blanks-done    one blank further
---     change-none, change-held, change-past     a change that is none, one that is held, one past the words
+--     change-none, change-held, change_past     a change that is none, one that is held, one past the words
 --     step-low, step-high, note-count           one byte further, and how many changes it makes
---     run-next, run-le, run-done                so in the runs
+--     run_next, run_le, run_done                so in the runs
 --     filled, noted-all                         the line and its blanks, the runs and the padding
 --     noted-length, runs-most                   how many were noted
 -- Assumes nothing.

@@ -1,9 +1,9 @@
 -- Laws of the entries that collect rows and move a position.
---     slot-past, slot-zero, slot-short, slot-set               a row by the tests that the code makes
---     collects-far, collects-rows, collects-marks, collects    what collecting one answers
---     handed-by                                                what is handed out of three slots
---     applies-unset, applies-short, applies                    what applying answers
---     collects-core                                            the lent rows are those that `with_row` of the crate `matrix` gives
+--     slot_past, slot_zero, slot_short, slot_set               a row by the tests that the code makes
+--     collects_far, collects-rows, collects-marks, collects    what collecting one answers
+--     handed_by_lem                                                what is handed out of three slots
+--     applies_unset, applies-short, applies                    what applying answers
+--     collects_core                                            the lent rows are those that `with_row` of the crate `matrix` gives
 --     collects-one, applies-one                                what an entry may answer is one number, with one content of all that is lent
 -- Assumes nothing.
 use mathlib.Core.Path.{◌≡◌, refl, sym, ap, ◌∙◌}

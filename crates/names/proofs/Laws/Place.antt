@@ -1,6 +1,6 @@
 -- Laws of where a field stands, by the code's tests.
---     family-hetatm, -first, -scale, -mtrix, -own     the kind that a kind goes by
---     of_other, of-family                             whether a number is of a family and a column
+--     family_hetatm, -first, -scale, -mtrix, -own     the kind that a kind goes by
+--     of_other, of_family                             whether a number is of a family and a column
 --     place_here, -next, -end                         its place among numbers: it is this one, it isn't, and there are no more
 -- Assumes nothing.
 use Prim.Native.Nat.{ℕ, ◌+◌, ◌/◌, ◌%◌, ◌≤◌, ◌<◌}

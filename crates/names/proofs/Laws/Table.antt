@@ -1,5 +1,5 @@
 -- What the code holds is what the definition says: tests that are computed over the whole table, and the laws that they give.
---     same-eq            texts that are the same bytes are equal
+--     same_eq            texts that are the same bytes are equal
 --     word-text          a word of a text of words is the text at that place
 --     place_same         a field has the place that its number has
 --     place-most         which is behind the last at most

@@ -1,7 +1,7 @@
 -- Laws of a text of words that end with LF.
---     behind-here, -next, -end     what stands behind the first LF: one byte further, by the code's test, and at the text's end
---     word-here, -next, -end       the word at a place: none is left before it, one word further, and at the text's end
---     front-here, -next, -end      what is put of a word, likewise
+--     behind_here, -next, -end     what stands behind the first LF: one byte further, by the code's test, and at the text's end
+--     word_here, -next, -end       the word at a place: none is left before it, one word further, and at the text's end
+--     front_here, -next, -end      what is put of a word, likewise
 -- Assumes nothing.
 use Prim.Native.Nat.{ℕ, suc, ◌+◌, ◌-◌, ◌≤◌, ◌<◌}
 use mathlib.Core.Path.{◌≡◌, refl, sym, ◌∙◌}

@@ -1,11 +1,11 @@
 -- Laws of digits and the number they say.
---     digit-at-most, digit_not                     one digit
+--     digit-at_most, digit_not                     one digit
 --     digit_low, -high, -yes                       whether a byte is a digit, by the tests
---     value-ge, value-below                        the number is no less than what stood before, and below 10 ^ w for w digits
+--     value_ge, value-below                        the number is no less than what stood before, and below 10 ^ w for w digits
 --     value-append, digits_append, digits-at       two texts, one behind the other, and one byte of a text
 --     begins-long, -first, -none                   what a text begins with
---     plus-yes, -no, sign-plus, -minus, -none      a text behind its sign, by the tests
---     after-sign-le                                it is no longer
+--     plus_yes, -no, sign-plus, -minus, -none      a text behind its sign, by the tests
+--     after_sign-le                                it is no longer
 -- Assumes nothing.
 use Prim.Native.Nat.{ℕ, zero, suc, ◌+◌, ◌-◌, ◌*◌, ◌^◌, ◌≤◌, ◌<◌}
 use mathlib.Core.Path.{◌≡◌, refl, sym, ap, ◌∙◌}

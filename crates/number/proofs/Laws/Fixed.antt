@@ -1,6 +1,6 @@
 -- Laws of the quick reading: what a word says is what its text says.
---     eight-said, six-said     a plain decimal of eight columns, and of six
---     four-said, five-said     a signed number of four columns, and an unsigned one of five
+--     eight_said, six-said     a plain decimal of eight columns, and of six
+--     four-said, five_said     a signed number of four columns, and an unsigned one of five
 -- Assumes nothing.
 use Prim.Native.Nat.{ℕ, zero, suc, ◌+◌, ◌*◌, ◌/◌, ◌^◌, ◌≤◌, ◌<◌}
 use mathlib.Core.Path.{◌≡◌, refl, sym, ap, ◌∙◌}

@@ -1,11 +1,11 @@
 -- The readings and the grammars say the same: what is accepted has the grammar's form, and all that has it is accepted.
---     unsigned-form, unsigned-read     U: an optional plus and one or more digits, below 2^64
---     signed-form, signed-read         I: an optional sign and one or more digits, within 64 bits
---     decimal-form, decimal-read       R: an optional sign, digits, an optional point and digits, in at most ten bytes
+--     unsigned_form, unsigned-read     U: an optional plus and one or more digits, below 2^64
+--     signed_form, signed-read         I: an optional sign and one or more digits, within 64 bits
+--     decimal_form, decimal-read       R: an optional sign, digits, an optional point and digits, in at most ten bytes
 --     plain_form, plain-read           the same of a text as it stands, of any length
---     sign-form, sign_read             an optional sign, and what stands behind it
+--     sign_form, sign_read             an optional sign, and what stands behind it
 --     no_sign                          digits don't begin with one
---     some-form, some_read             one or more digits
+--     some_form, some_read             one or more digits
 -- Assumes nothing.
 use Prim.Native.Nat.{ℕ, ◌^◌, ◌<◌}
 use mathlib.Core.Path.{◌≡◌, refl, sym, ap, ◌∙◌}

@@ -1,6 +1,6 @@
 -- Laws of where the first `e` or `E` stands.
 --     mark-le                   within the text
---     mark-here, mark-other     by the byte that is looked at
+--     mark_here, mark-other     by the byte that is looked at
 -- Assumes nothing.
 use Prim.Native.Nat.{ℕ, suc, ◌+◌, ◌≤◌, ◌<◌}
 use mathlib.Core.Path.{◌≡◌, refl}

@@ -1,8 +1,8 @@
 -- Laws of the digits at the front of a text that keep the number below 2^64.
---     run-joins, run-stops, run_ends     one byte further, and the end, for the loop
+--     run_joins, run_stops, run_ends     one byte further, and the end, for the loop
 --     joins-low, -high, -full, -on       whether that byte joins, by the loop's own tests
---     run-front                          what a run is: digits up to a byte that doesn't join
---     run-full, run_short                what it tells of the text, as long as the text or shorter
+--     run_front                          what a run is: digits up to a byte that doesn't join
+--     run_full, run_short                what it tells of the text, as long as the text or shorter
 --     digits-none, -short, -full         one or more digits and nothing else, by the run
 -- Assumes nothing.
 use Prim.Native.Nat.{ℕ, suc, ◌+◌, ◌-◌, ◌^◌, ◌≤◌, ◌<◌, ◌/◌}

@@ -1,10 +1,10 @@
 -- Laws of words of eight bytes, and of what is read of them.
 --     front-is, last-front     every guess has a front of four bytes
 --     value-fits, sum_fits, over-fits              what is added up has room
---     code-first, -second, -minus, -plus           what is read, by the tests
+--     code_first, -second, -minus, -plus           what is read, by the tests
 --     word-said                a word that passes the two tests is blanks, a minus or none, digits, a point and three digits
 --     filled-said              the same of a text that is filled up to a word
---     filled_is, filled-not    that word, by the test of the length
+--     filled_is, filled_not    that word, by the test of the length
 -- Assumes nothing.
 use Prim.Native.Nat.{ℕ, zero, suc, ◌+◌, ◌*◌, ◌/◌, ◌%◌, ◌^◌, ◌≤◌, ◌<◌}
 use mathlib.Core.Path.{◌≡◌, refl, sym, ap, ◌∙◌}

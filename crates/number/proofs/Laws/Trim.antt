@@ -2,7 +2,7 @@
 --     leading_le, kept-le, trimmed-le     trim adds nothing
 --     leading-white, leading-other        one byte further at the front
 --     kept-white, kept-other              one byte further from the end
---     span_none, span-some                where the trimmed text lies
+--     span_none, span_some                where the trimmed text lies
 --     rest_from, rest-next                a part that goes to the end
 -- Assumes nothing.
 use Prim.Native.Nat.{ℕ, suc, ◌+◌, ◌-◌, ◌≤◌, ◌<◌}

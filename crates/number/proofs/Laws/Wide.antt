@@ -1,7 +1,7 @@
 -- Texts with an exponent, by the parts that the code reads, and their limits.
 --     none_in, parts_in                        by the place of the mark
 --     parts-other, parts_none, parts-both      by what stands before it and behind it
---     in-limits, marked-limits, wide-limits    M is below 10 ^ 10, and p is at most 9
+--     in_limits, marked_limits, wide_limits    M is below 10 ^ 10, and p is at most 9
 -- Assumes nothing.
 use Prim.Native.Nat.{ℕ, suc, ◌+◌, ◌-◌, ◌^◌, ◌≤◌, ◌<◌}
 use mathlib.Core.Path.{◌≡◌, refl, ap, ◌∙◌}

@@ -1,6 +1,6 @@
 -- The reading of exponents and the grammar say the same.
---     marked-form, marked-read    what is read with an exponent has the grammar's form, and all that has it is read
---     marked-not-plain            and is no plain decimal
+--     marked_form, marked-read    what is read with an exponent has the grammar's form, and all that has it is read
+--     marked_not_plain            and is no plain decimal
 --     wide_read                   so with the option on it is read with its exponent
 -- Assumes nothing.
 use Prim.Native.Nat.{ℕ, suc, ◌+◌, ◌^◌, ◌≤◌, ◌<◌}

@@ -3,7 +3,7 @@
 --     signed-within                                   the same of a text of up to w columns
 --     unsigned-fits, signed-fits                      a whole number is within 64 bits
 --     plain-within                                    a plain decimal of up to w bytes says an M below 10 ^ w, and p is below w
---     decimal-limits                                  M is below 10 ^ 10, and p is at most 9
+--     decimal_limits                                  M is below 10 ^ 10, and p is at most 9
 -- Assumes nothing.
 use Prim.Native.Nat.{ℕ, zero, suc, ◌-◌, ◌^◌, ◌≤◌, ◌<◌}
 use mathlib.Core.Path.{◌≡◌, refl, ap}

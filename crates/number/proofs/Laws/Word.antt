@@ -1,9 +1,9 @@
 -- Laws of bytes as one number: what is done to the number is done to each byte, as long as no byte reaches into the next.
---     word-xor, word_sum, word_low      the exclusive or, the sum, and the test of every byte's highest bit
---     word_below, highs-eight           n bytes make a number below 256 ^ n; eight bytes, and their mask of highest bits
---     bytes-are, -long, -word           a number's bytes
+--     word_xor, word_sum, word_low      the exclusive or, the sum, and the test of every byte's highest bit
+--     word_below, highs_eight           n bytes make a number below 256 ^ n; eight bytes, and their mask of highest bits
+--     bytes_are, -long, -word           a number's bytes
 --     bytes-each, held-is               bytes by the test, and the word that they make
---     nines-word, fours-front, -behind  digits in their places: there is room to join them, and what comes of it
+--     nines_word, fours-front, -behind  digits in their places: there is room to join them, and what comes of it
 --     xors-.., sums-..                  a byte stays a byte, and there are as many
 --     same, digit-over                  a byte that differs in nothing, and one that differs from 48 by nine at most
 -- Assumes nothing.

@@ -3,9 +3,9 @@
 --     tenth-below, two_digits              a number below 10 ^ i that loses its last digit, and one that has two
 --     decimal-length, decimal-short        from 1 to 20 bytes, and at most k for a number below 10 ^ k
 --     decimal-most                         never more than 20, whatever the number
---     decimal-digits, decimal-lead         every byte is a digit, and the first is 0 only for 0
+--     decimal-digits, decimal_lead         every byte is a digit, and the first is 0 only for 0
 --     decimal-says, decimal-tells          the digits say the number, so different numbers have different digits
---     decimal-no-feed                      no LF among them
+--     decimal_no_feed                      no LF among them
 -- Assumes nothing.
 use Prim.Native.Nat.{ℕ, zero, suc, ◌+◌, ◌-◌, ◌^◌, ◌≤◌, ◌<◌, ◌/◌, ◌%◌}
 use mathlib.Core.Path.{◌≡◌, refl, sym, ap, ◌∙◌}

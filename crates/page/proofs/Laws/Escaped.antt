@@ -3,7 +3,7 @@
 --     shown-three                     a byte that is escaped, by the code's puts
 --     escaped-length                  at least as long, and at most three times
 --     escaped-least, escaped-most     its bytes are from 32 on, and those of a text of bytes up to 126
---     escaped-no-feed                 no LF among them
+--     escaped_no_feed                 no LF among them
 --     escaped-says, escaped-tells     it says the text, so different texts have different ones
 -- Assumes nothing.
 use Prim.Native.Nat.{ℕ, ◌+◌, ◌*◌, ◌≤◌, ◌<◌, ◌/◌, ◌%◌}

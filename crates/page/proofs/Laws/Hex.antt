@@ -1,11 +1,11 @@
 -- Laws of hex digits.
---     hex-more, hex-done           one digit gathered, and all of them, for the loop
+--     hex_more, hex_done           one digit gathered, and all of them, for the loop
 --     digit-least, -most           a digit is from `0` to `F`
 --     digit_value                  its value is what it stands for
 --     hex16-length                 sixteen bytes
 --     hex16-digits                 every byte is from `0` to `F`
 --     hex16-says, hex16-tells      the digits say the number, so different numbers have different digits
---     hex16-no-feed                no LF among them
+--     hex16_no_feed                no LF among them
 -- Assumes nothing.
 use Prim.Native.Nat.{ℕ, zero, suc, ◌+◌, ◌-◌, ◌^◌, ◌≤◌, ◌<◌, ◌/◌, ◌%◌}
 use mathlib.Core.Path.{◌≡◌, refl, sym, ap, ◌∙◌}

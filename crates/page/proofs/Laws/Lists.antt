@@ -1,7 +1,7 @@
 -- Laws of lists of bytes.
 --     gathered                        an array that is filled from the back
 --     rest_from                       a part of one, from a place to its end
---     Between, between-member         every byte lies between two
+--     Between, between_member         every byte lies between two
 --     no-feed                         then there is no LF, if the lower one is above it
 --     either-most                     one text or another is no longer than both may be
 -- Assumes nothing.

@@ -1,10 +1,10 @@
 -- Laws of putting bytes on a page.
 --     put-append, put_then      bytes put behind bytes
 --     put-at, put_count         where the next byte goes, and that from 0 on it is the number of bytes put
---     put-measure               it is the same whatever the page's bytes
+--     put_measure               it is the same whatever the page's bytes
 --     put-length                a page keeps its length
 --     put-fits, put_front       what fits replaces as many bytes, and the others stay
---     put_on, put-past          one byte, by the code's tests
+--     put_on, put_past          one byte, by the code's tests
 --     put_step, -next, -done    a loop's turn, and its end
 -- Assumes nothing.
 use Prim.Native.Nat.{ℕ, suc, ◌+◌, ◌-◌, ◌^◌, ◌≤◌, ◌<◌, min}

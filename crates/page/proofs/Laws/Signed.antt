@@ -1,6 +1,6 @@
 -- Laws of decimal digits behind a sign, for numbers within 64 bits.
 --     signed-length                   from 1 to 20 bytes
---     signed-no-feed                  no LF among them
+--     signed_no-feed                  no LF among them
 --     signed-tells                    different numbers have different bytes
 --     signed-minus, signed-plus       a number below zero and one that isn't, by the code's puts
 -- Assumes nothing.

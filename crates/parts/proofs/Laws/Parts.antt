@@ -1,7 +1,7 @@
 -- "For every way of cutting the input .. the listings are those of the walker on the whole."
 --     Given, part-lines     behind a piece that is held, a part puts the reports of the lines that it finishes, and the piece that it leaves is held
---     cuts-finished         what is put for parts are the reports of all lines that they finish, so that none of them waits
---     cuts-lines            and with what is put at the end of the input, of the lines of the whole, numbered from 1
+--     cuts_finished         what is put for parts are the reports of all lines that they finish, so that none of them waits
+--     cuts_lines            and with what is put at the end of the input, of the lines of the whole, numbered from 1
 -- Assumes nothing.
 use Prim.Native.Nat.{ℕ, suc, ◌+◌}
 use mathlib.Core.Path.{◌≡◌, refl, sym, ap, ◌∙◌}

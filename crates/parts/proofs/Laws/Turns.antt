@@ -2,8 +2,8 @@
 --     free-text, free-state        with nothing held, what is put for bytes and what they leave
 --     Goes, turn-goes              what a turn puts, and then what is put for the rest, is what is put for all; and what is held then
 --     turn-moves, turn-within      with room for a report a turn takes a byte at least, and none past the end
---     lines-in-le, part-number     a part has no more lines than bytes
---     turns-all                    turns in rooms of any size from 4,096 bytes up, as many as the part has bytes, put all that there is to put for it
+--     lines_in-le, part-number     a part has no more lines than bytes
+--     turns_all                    turns in rooms of any size from 4,096 bytes up, as many as the part has bytes, put all that there is to put for it
 -- Assumes nothing.
 use Prim.Native.Nat.{ℕ, suc, ◌+◌, ◌-◌, ◌^◌, ◌≤◌, ◌<◌}
 use mathlib.Core.Path.{◌≡◌, refl, sym, ap, ◌∙◌}

@@ -1,5 +1,5 @@
 -- A turn of the loop that keeps the bytes up to an LF.
---     absorb-here, absorb-full, absorb-next, absorb-none    at the LF, with no more room, at another byte, and at the end
+--     absorb_here, absorb_full, absorb_next, absorb_none    at the LF, with no more room, at another byte, and at the end
 --     stop_le            no more bytes are taken than there are, and than there is room for
 -- Assumes nothing.
 use Prim.Native.Nat.{ℕ, suc, ◌+◌, ◌-◌, ◌<◌, ◌≤◌}

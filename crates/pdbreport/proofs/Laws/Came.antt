@@ -4,7 +4,7 @@
 --     next-short, next-due, next-entered       a line with its answer is told of
 --     next-over, next-front                    what they are, if it is too long and if it isn't
 --     step-came, step-all, step-ended          bytes of a part up to an LF
---     loop-came, loop-next, loop-all           and all of it
+--     loop_came, loop_next, loop_all           and all of it
 --     came-first, came-less                    before the first read, and with fewer to come
 --     came-part, came-next                     at a read, and behind it
 --     came-sums                                the end of the input

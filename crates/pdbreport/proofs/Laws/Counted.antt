@@ -2,7 +2,7 @@
 -- how many were refused.
 --     refused_in, faulty_in     how many of some lines, from a number on
 --     all-counted             line after line
---     file-counted            a file, whose lines have numbers of 64 bits
+--     file_counted            a file, whose lines have numbers of 64 bits
 -- Assumes nothing.
 use Prim.Native.Nat.{ℕ, suc, ◌+◌, ◌^◌, ◌≤◌, ◌<◌, min}
 use mathlib.Core.Path.{◌≡◌, ◌∙◌}

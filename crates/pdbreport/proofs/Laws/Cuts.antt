@@ -1,8 +1,8 @@
 -- "For every way of cutting the input": what is known behind bytes is what is known after the lines that they finish, and what is printed for them is
 -- the lines' accounts. So all that is printed for a file is what the definition says of it.
 --     Reached, bytes-reached     bytes behind a piece that is held
---     cuts-told                  all bytes, and then the end: the accounts of the file's lines
---     cuts-entered               and what was entered for them
+--     cuts_told                  all bytes, and then the end: the accounts of the file's lines
+--     cuts_entered               and what was entered for them
 -- Assumes nothing.
 use Prim.Native.Nat.{ℕ, suc, ◌+◌, ◌^◌, ◌<◌}
 use mathlib.Core.Path.{◌≡◌, refl, sym, ap, ◌∙◌, subst}

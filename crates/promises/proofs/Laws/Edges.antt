@@ -4,7 +4,7 @@
 --     readings-found     triples, a residue of the database, trimming, the digits after a point
 -- each with the option for exponents on and off: no case has an exponent in a real field, so the answers are the same
 --     exponents-found    the cases of 2026-10
---     zero-far           a zero is read however large its exponent is: this one isn't computed, since its power isn't
+--     zero_far           a zero is read however large its exponent is: this one isn't computed, since its power isn't
 -- One line of a proof is one case, in the list's order, so that a failure names its case. Assumes nothing.
 use mathlib.Core.Path.{◌≡◌, refl, ◌∙◌}
 use mathlib.Core.Bool.{Bool, true, false, ◌&&◌}

@@ -1,7 +1,7 @@
 -- "An invented fault count (it is the length of the defined list)": the faults of an accepted line are those of its kind's table, in their order,
 -- and as many are counted. "Put the line number and the record kind into every fault." "ANISOU can give fifteen faults and no kind gives more, so show that on every line in either mode."
 --     faults-few        a line has at most fifteen, whatever its kind, the options and the mode
---     fifteen-given     an ANISOU of seven bytes has them, in either mode
+--     fifteen_given     an ANISOU of seven bytes has them, in either mode
 --     faults-listed     the list that is held is the defined list
 --     faults-stamped    and each fault of it has the line's number and kind
 --     faults-counted    its count is that list's length

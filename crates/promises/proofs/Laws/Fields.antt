@@ -1,7 +1,7 @@
 -- A record holds what its kind's table says, and nothing else: each present field's column, sort and value are an entry's, read from the line.
 --     record-shown             the rows of an accepted record are what the entries show, in ascending columns, none forgotten and none added
 --     record-kind              and the record is of the line's kind, with its row or with what makes a HETATM of an atom
---     row-there, row-shown     an accepted record shows what an entry shows, and nothing else in that column
+--     row_there, row-shown     an accepted record shows what an entry shows, and nothing else in that column
 --     held-has, held_in        rows that show something are held, and all that is held is among the rows
 -- Assumes nothing.
 use Prim.Native.Nat.{ℕ, ◌<◌}

@@ -1,6 +1,6 @@
 -- What goes kind by kind, all of it by computing.
---     format-departures     the departures from the format that are stated are all there are, in each mode
---     departures-true       and each that is stated is there
+--     format_departures     the departures from the format that are stated are all there are, in each mode
+--     departures_true       and each that is stated is there
 --     item-kind             the record of a kind is of that kind
 --     Asks, asks            what a kind asks of its line is what 01's table of refusals says of it
 --     least-asked           and the least lengths are asked for

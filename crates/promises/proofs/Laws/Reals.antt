@@ -1,10 +1,10 @@
 -- Demand 3: a fault that names a real field's columns is its own entry's, so that each field of an accepted record keeps its promise.
---     demand-3              every real field of an accepted record keeps its promise
---     unfaulted-written     where no fault names the columns, a number is written
+--     demand_3              every real field of an accepted record keeps its promise
+--     unfaulted_written     where no fault names the columns, a number is written
 --     plain-near            with the option off, the exponent is 0, and the double is as near as 01 asks
---     demand-3-tells        two written fields whose doubles have the same bits say the same number, with the same sign; the columns needn't
+--     demand_3_tells        two written fields whose doubles have the same bits say the same number, with the same sign; the columns needn't
 --                           be the same, nor the options
---     real-finite           every real of an accepted record is finite, also a default
+--     real_finite           every real of an accepted record is finite, also a default
 --     counts-kept           the count of an R that a record shows is that of the written digits behind the point
 --     counts-few            and it is at most 9
 -- Assumes nothing.

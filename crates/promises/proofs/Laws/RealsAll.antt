@@ -1,6 +1,6 @@
 -- Demand 3 forgets no real, and speaks of none that isn't there.
---     decimals-shown, factors-shown    a record shows each R of its line's table, and each of ANISOU's six, in the first of its columns
---     decimals-all, factors-all        and each such number that a record shows is a real field of demand 3
+--     decimals-shown, factors_shown    a record shows each R of its line's table, and each of ANISOU's six, in the first of its columns
+--     decimals-all, factors_all        and each such number that a record shows is a real field of demand 3
 -- Assumes nothing.
 use Prim.Native.Nat.{ℕ, suc, ◌+◌}
 use mathlib.Core.Path.{◌≡◌, refl, sym, ap}

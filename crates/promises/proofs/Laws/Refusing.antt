@@ -1,19 +1,19 @@
 -- "Given exactly when": each refusal of 01's table is given where its rule holds and no earlier one does, and a line is read where none does; of
 -- each of the three entries, whose rules are one list.
---     refused-when          an entry refuses a line with r exactly when the first rule that holds gives r
---     accepted-exactly      it answers the line's kind or the record of its kind exactly when no rule holds
---     refused-or-accepted   and does one or the other
---     refused-once          so the rules give a line one refusal at most
+--     refused_when          an entry refuses a line with r exactly when the first rule that holds gives r
+--     accepted_exactly      it answers the line's kind or the record of its kind exactly when no rule holds
+--     refused_or_accepted   and does one or the other
+--     refused_once          so the rules give a line one refusal at most
 --     refusal-numbered      whose number is one of the entry's
 --     zero-accepted         an outcome whose number is 0 is a record
---     refused-by-number     an outcome has a refusal's number, place and length exactly when the first rule that holds gives them
---     refusal-empty         a refusal comes with an empty list of faults, as-refusal-empty as one of a kind
---     refusal-unlisted      which lists none
---     line-through          the line's number is handed through, as-line-through as one of a kind
+--     refused_by_number     an outcome has a refusal's number, place and length exactly when the first rule that holds gives them
+--     refusal-empty         a refusal comes with an empty list of faults, as_refusal_empty as one of a kind
+--     refusal_unlisted      which lists none
+--     line-through          the line's number is handed through, as_line_through as one of a kind
 --     atoms-kept            under atoms only a line is of a kind that atoms only keeps
 --     atoms-skip            and of no other kind
 --     atoms-silent          so the rules of 4, 5 and 6 are silent
---     atoms-refused-when    and a line is refused by the others
+--     atoms_refused_when    and a line is refused by the others
 -- Assumes nothing.
 use Prim.Native.Nat.{ℕ, ◌<◌}
 use mathlib.Core.Path.{◌≡◌, refl, sym, ap, ◌∙◌}

@@ -1,5 +1,5 @@
 -- "The old entry remains as the two in sequence, refusal 1 still first, with the same answers on every input."
---     in-sequence     asking for the kind and reading the line as that kind is lexing it
+--     in_sequence_lem     asking for the kind and reading the line as that kind is lexing it
 -- Assumes nothing.
 use mathlib.Core.Path.{◌≡◌, refl, ◌∙◌}
 use mathlib.Core.Bool.{Bool, true, false, cond, not}

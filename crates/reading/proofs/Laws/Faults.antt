@@ -1,7 +1,7 @@
 -- Laws of the words of faults.
 --     puts-fault      the two words of a fault, put one after the other
 --     front-one       words behind one other, at the front
---     number-of, few-of, sort-of  the parts of a fault's word are small
+--     number-of, few-of, sort_of_lem  the parts of a fault's word are small
 -- Assumes nothing.
 use Prim.Native.Nat.{ℕ, suc, ◌+◌, ◌≤◌, ◌<◌}
 use mathlib.Core.Path.{◌≡◌, refl}

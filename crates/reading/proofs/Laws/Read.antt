@@ -1,6 +1,6 @@
 -- Laws of the entry that reads a line.
 --     kind-within, kind-beyond    the kinds are those of the names, in their order, and a number above 27 is no kind's
---     as-lexed         a line that is accepted as one of a kind is answered as it is whatever its kind
+--     as_lexed         a line that is accepted as one of a kind is answered as it is whatever its kind
 --     answered-lexed   so is a line that is accepted at all
 --     few-faults       its faults are told as they are counted, and are at most fifteen
 --     small            a refusal's number and place have sixteen bits, and its length has thirty-two

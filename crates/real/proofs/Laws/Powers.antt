@@ -1,6 +1,6 @@
 -- The powers of ten that numbers are divided by, multiplied out one by one.
---     ten-next     one more multiplication gives the next power
---     ten-few      and none of them is large
+--     ten_next     one more multiplication gives the next power
+--     ten_few      and none of them is large
 -- Assumes nothing.
 use Prim.Native.Nat.{ℕ, ◌+◌, ◌*◌, ◌^◌, ◌≤◌}
 use mathlib.Core.Path.{◌≡◌, refl}

@@ -1,12 +1,12 @@
 -- What the doubles of a text are: near the written number, so finite, and they tell it.
---     real-is, real-not                    a plain decimal has its double, and what is no plain decimal has none
+--     real-is, real_not                    a plain decimal has its double, and what is no plain decimal has none
 --     decimal-near, real-near              the double is near the written number, and its places are the number's
---     real-finite                          it is finite and no NaN
---     reals-tell                           two texts with the same double say the same number, with the same sign
+--     real_finite                          it is finite and no NaN
+--     reals_tell                           two texts with the same double say the same number, with the same sign
 --     decimal-within                       what a text says is within the limits
---     eight-real, six-real                 what is read of a text as a word, if anything is, is what the text says
---     ten-thousandths-near                 an integer's double over 10000.0, in up to seven columns, is near its number
---     ten-thousandths-tell                 two integers of up to ten digits with the same double are the same
+--     eight_real, six-real                 what is read of a text as a word, if anything is, is what the text says
+--     ten_thousandths_near                 an integer's double over 10000.0, in up to seven columns, is near its number
+--     ten_thousandths_tell                 two integers of up to ten digits with the same double are the same
 -- Assumes nothing.
 use Prim.Native.Nat.{ℕ, ◌+◌, ◌*◌, ◌/◌, ◌^◌, ◌≤◌, ◌<◌}
 use mathlib.Core.Path.{◌≡◌, refl, sym, ap}

@@ -2,7 +2,7 @@
 -- with the same sign. The distance alone says so. And a near double is finite, so it is no NaN.
 --     wide-tells                    numbers with powers of ten: the smaller power goes out of both, and a gap of 1 is then too wide
 --     near-tells                    plain decimals
---     near-finite, near-number      no infinity, no NaN
+--     near_finite, near-number      no infinity, no NaN
 --     near-finer                    what is near over 2 ^ t is near over any higher power
 -- Assumes nothing.
 use mathlib.Core.Path.{◌≡◌, refl, sym}

@@ -1,10 +1,10 @@
 -- The doubles of numbers with an exponent: one product or one quotient of two whole doubles, each exact, so rounded once.
---     ten-two                         powers of ten up to 10 ^ 22 are exact doubles, so the product of two is
---     over-nearest, times-nearest     the code's two ways are the nearest double
+--     ten_two                         powers of ten up to 10 ^ 22 are exact doubles, so the product of two is
+--     over-nearest, times_nearest     the code's two ways are the nearest double
 --     wide-nearest, zero-nearest      which no double is nearer than; that of 0 goes by no power
 --     wide-near                       it is so near as demand 3 asks, over 2 ^ 126
 --     size-under                      and not large
---     few-in                          what the machine asks before it makes an integer a double
+--     few_in                          what the machine asks before it makes an integer a double
 -- Assumes nothing.
 use mathlib.Core.Path.{◌≡◌, refl, sym, ap, ◌∙◌}
 use Prim.Native.Nat.{ℕ, zero, suc, ◌+◌, ◌-◌, ◌*◌, ◌^◌, ◌≤◌, ◌<◌, zero-le}

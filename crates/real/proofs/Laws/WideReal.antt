@@ -2,12 +2,12 @@
 --     off-is, on-is           with the option off it is what it was; with it on, a plain decimal is read the same
 --     marked-is               and what is no plain decimal is read with its exponent
 --     Said, with-said         a text that says a number has its double: near the number, and no double is nearer
---     with-not, with-is       a text that says none has no double, and one that has a double says a number
+--     with_not, with-is       a text that says none has no double, and one that has a double says a number
 --     near-written            near in the three forms of 2026-10
 --     plain_over, over_plain  which for the exponent 0 is as 01 has it
 --     said-finer, said-tells  different numbers never give the same double, whichever way either is read
 --     with-few                the places are at most 9
---     at-zero, at-far, ..     the double by the tests that the code makes
+--     at-zero, at_far, ..     the double by the tests that the code makes
 -- Assumes nothing.
 use mathlib.Core.Path.{◌≡◌, refl, sym, ap, ◌∙◌}
 use Prim.Native.Nat.{ℕ, zero, suc, ◌+◌, ◌-◌, ◌*◌, ◌^◌, ◌≤◌, ◌<◌}

@@ -1,8 +1,8 @@
 -- Laws of the entry that mends a line.
 --     refusal-small               a refusal's numbers fit their bits
---     mends-few                   too few words
---     mends-refused, mends-done   what is answered, by what mending says
---     mends-into-one              that is one number, with one content of all bytes and words that are lent
+--     mends_few                   too few words
+--     mends_refused, mends_done   what is answered, by what mending says
+--     mends_into_one              that is one number, with one content of all bytes and words that are lent
 -- Assumes nothing.
 use Prim.Native.Nat.{ℕ, suc, ◌+◌, ◌-◌, ◌≤◌, ◌<◌}
 use mathlib.Core.Path.{◌≡◌, refl, sym, ap, ◌∙◌}

@@ -12,7 +12,7 @@ returns-then-changes-lt514 c = mends_few _ _ _ _ _ c.if-changes-lt514.true c.lac
 
 pub bounds-changes-1 : goal.bounds-changes-1
 bounds-changes-1 c =
-    let same = c.mend_behind.auto.1.1.0 in
+    let same = c.mend_behind.auto.out in
     omega (arith, length-set c.mend_behind.new.1.1.0 0 c.in-Done.size, c.if-changes-lt514.false)
 
 pub returns-in-Refused : goal.returns-in-Refused

@@ -1,8 +1,8 @@
 -- A line as it goes on, and its rows, by the code's two ends.
---     repairs-over      it has over 1,024 bytes
---     repairs-mended    it is mended
+--     repairs_over      it has over 1,024 bytes
+--     repairs_mended    it is mended
 --     count-few         its changes have room in 512 words
---     repairs-few, repairs-all    with too little room for the line, and with enough
+--     repairs_few, repairs_all    with too little room for the line, and with enough
 -- Assumes nothing.
 use Prim.Native.Nat.{ℕ, suc, ◌^◌, ◌<◌, ◌≤◌}
 use mathlib.Core.Path.{◌≡◌, refl, sym, ap, ◌∙◌}

@@ -1,7 +1,7 @@
 -- The rows of words, and that they are those of the changes which the words hold.
 --     rows_next, rows-done     a turn of the loop over the words
 --     word-tells               a word says its change
---     Small, changes-small     places and lengths that a word has bits for: those of a line of up to 1,024 bytes
+--     Small, changes_small     places and lengths that a word has bits for: those of a line of up to 1,024 bytes
 --     cut-row, cut-none        the row of a line that is cut, or none
 --     rows_told                the rows of a line's words are those of its changes
 -- Assumes nothing.

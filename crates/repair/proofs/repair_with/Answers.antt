@@ -14,7 +14,7 @@ slice_bounds-changes-end c = omega (arith, count-few _ c.args.number _ [] c.requ
 pub slice_bounds-put_rows-end : goal.slice_bounds-put_rows-end
 slice_bounds-put_rows-end c =
     let few = count-few _ c.args.number _ [] c.requires _ _ _ _ c.mend_line.ensures _ _ c.in-Done.is (lit≤ tt) in
-    sym (length-take-le _ _ (omega (arith, few, c.mend_line.auto.1.1.0)))
+    sym (length-take-le _ _ (omega (arith, few, c.mend_line.auto.out)))
 
 pub returns-in-Refused : goal.returns-in-Refused
 returns-in-Refused c = repairs_over _ c.args.number _ _ c.requires _ _ _ _ c.mend_line.ensures _ _ _ _ _ c.in-Refused.is c.put_bytes-n.ensures c.put_over-m.ensures

@@ -1,6 +1,6 @@
 -- "A real that was read from a field with no more places than the writer's comes back with the same bits."
 --     real-held, factor-held     a real, and one of ANISOU's six
---     written-bits               all reals of a line
+--     written_bits               all reals of a line
 -- Assumes nothing.
 use mathlib.Core.Path.{◌≡◌, refl, sym, ap, ◌∙◌}
 use Prim.Native.Nat.{ℕ, suc, ◌+◌, ◌-◌, ◌*◌, ◌^◌, ◌≤◌, ◌<◌}

@@ -1,6 +1,6 @@
 -- The fields that kinds share come back, the ten of a label and the four of a matrix's row, and the number of a model in either mode.
 --     LabelBack, label-back     the ten, which stand in their columns, read back without faults
---     row-values, row-clear     the same of the four
+--     row_values, row-clear     the same of the four
 --     number-back               the same of a model's number
 -- Assumes nothing.
 use mathlib.Core.Path.{◌≡◌, refl}

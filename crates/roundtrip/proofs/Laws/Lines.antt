@@ -1,5 +1,5 @@
 -- What all written lines share: 80 bytes below 128 in which the fields stand, under the name of their kind.
---     written-lined     the fields stand in the line
+--     written_lined     the fields stand in the line
 --     written_low       every byte is below 128
 --     written-kind      the kind that is read
 --     Asked, written-asked     the line has what its kind asks for

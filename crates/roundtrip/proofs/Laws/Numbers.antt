@@ -1,7 +1,7 @@
 -- A number that fits its columns reads back, without a fault.
---     unsigned-in, signed-in     as itself
---     real-in                    as the double of the decimal that was written, with its places
---     factor-in                  as that of the integer that was written
+--     unsigned_in, signed_in_lem     as itself
+--     real_in                    as the double of the decimal that was written, with its places
+--     factor_in                  as that of the integer that was written
 --     rest_in                    a number read up to the line's end, with blanks before and behind it
 -- Assumes nothing.
 use mathlib.Core.Path.{◌≡◌, refl, ap, ◌∙◌}

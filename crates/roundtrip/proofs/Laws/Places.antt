@@ -1,6 +1,6 @@
 -- A field that was read and is written with as many decimals as it was read with says the same sign, M and p.
---     written-as-read     for every kind that is written and each of its real fields that is a plain decimal, with exponents taken or not
---     never-rounded       a record is written only where the digits themselves fit; all others are refused
+--     written-as_read     for every kind that is written and each of its real fields that is a plain decimal, with exponents taken or not
+--     never_rounded       a record is written only where the digits themselves fit; all others are refused
 -- Assumes nothing.
 use mathlib.Core.Path.{◌≡◌, refl, sym, ap, ◌∙◌}
 use Prim.Native.Nat.{ℕ, ◌-◌, ◌≤◌}

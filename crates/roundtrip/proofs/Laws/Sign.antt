@@ -1,7 +1,7 @@
 -- "The same .. signs (not of an ANISOU zero)": a real comes back with its sign, a zero too, and one of ANISOU's six unless it comes back as 0.0.
 --     written-sign     of a real: -0.0004 in three places goes out as `-0.000` and comes back as negative zero
 --     factor-sign      of one of ANISOU's six
---     written-signs    of all reals of a line
+--     written_signs    of all reals of a line
 -- Assumes nothing.
 use mathlib.Core.Path.{◌≡◌, refl, sym, ◌∙◌}
 use Prim.Native.Nat.{ℕ, zero, suc, ◌-◌, ◌*◌, ◌^◌, ◌<◌}

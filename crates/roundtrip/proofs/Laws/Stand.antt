@@ -2,8 +2,8 @@
 --     Lined            a line of 80 bytes that holds a sheet's cells behind its name, all of which fit
 --     Stand            the line from each cell on
 --     Held, AllHeld    a cell that fits and stands in its columns, and all cells of a list
---     line-lined       the line of a sheet is one
---     lined-stand, lined-held     what that says of its cells
+--     line_lined       the line of a sheet is one
+--     lined_stand, lined_held     what that says of its cells
 -- Assumes nothing.
 use mathlib.Core.Path.{◌≡◌, refl, sym, ap, ◌∙◌}
 use Prim.Native.Nat.{ℕ, ◌+◌, ◌-◌, ◌≤◌}

@@ -1,10 +1,10 @@
 -- A text that fits its columns reads back, without a fault: the view of what is read there is the text.
 --     text_in          with no white space at its ends
---     lent-in          the lent name, trimmed
+--     lent_in          the lent name, trimmed
 --     within_in        a text of what the line reaches of its columns
---     optional-in      a character whose blank means absent
---     character-in     one whose blank is itself
---     blank-in         such a one that is absent
+--     optional_in      a character whose blank means absent
+--     character_in     one whose blank is itself
+--     blank_in         such a one that is absent
 -- Assumes nothing.
 use mathlib.Core.Path.{◌≡◌, refl, sym, ap, ◌∙◌}
 use Prim.Native.Nat.{ℕ, ◌+◌, ◌-◌, ◌≤◌, ◌<◌}

@@ -1,7 +1,7 @@
 -- Blanks around a text are trimmed, and what is read of a text field shows the trimmed part.
 --     tail-out           blanks behind a text
---     side-trimmed       a text at a side of its columns
---     span-view          the view of a part's trimmed text
+--     side_trimmed       a text at a side of its columns
+--     span_view          the view of a part's trimmed text
 -- Assumes nothing.
 use mathlib.Core.Path.{◌≡◌, refl, sym, ap, ◌∙◌}
 use Prim.Native.Nat.{ℕ, zero, suc, ◌+◌, ◌-◌, ◌≤◌}

@@ -1,8 +1,8 @@
 -- A fault's second word says the fault's row.
 --     Placed, faults-placed     the faults of a line stand at columns of 16 bits, since its kind's table does
 --     fault-parts               the word of such a fault gives back its kind, its number, its sort, its place and its length
---     faults-say                the words of such faults say their rows
---     many-in                   as many as there are
+--     faults_say                the words of such faults say their rows
+--     many_in                   as many as there are
 -- Assumes nothing.
 use Prim.Native.Nat.{ℕ, suc, ◌+◌, ◌*◌, ◌/◌, ◌%◌, ◌^◌, ◌<◌}
 use mathlib.Core.Path.{◌≡◌, refl, ap, ◌∙◌}

@@ -1,9 +1,9 @@
 -- The words of a line say what its listing says.
 --     accepted-low     an accepted line's bytes are below 256
---     lexed-say        the words of an accepted line say its listing, whatever stands behind them
---     words-say        so do the words that `read_words` leaves where it answers 0, whatever kind was asked for
+--     lexed_say        the words of an accepted line say its listing, whatever stands behind them
+--     words_say        so do the words that `read_words` leaves where it answers 0, whatever kind was asked for
 --     words-written    so what they say is what `list_line` writes for the same line
---     words-face       and what C hosts get listed in 4,096 bytes
+--     words_face       and what C hosts get listed in 4,096 bytes
 -- Assumes nothing.
 use Prim.Native.Nat.{ℕ, ◌-◌, ◌/◌, ◌^◌, ◌≤◌, ◌<◌}
 use mathlib.Core.Path.{◌≡◌, refl, sym, ap, ◌∙◌}

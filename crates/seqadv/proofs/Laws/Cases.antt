@@ -1,7 +1,7 @@
 -- What the definitions give for lines, so that code and definition can't go wrong together: a database's residue is named where any of the columns
 -- from 39 to 47 isn't blank.
---     by-column-42, by-column-47     the column behind the name alone, and the last alone
---     by-none                        all blank, though columns beside them aren't
+--     by_column_42, by_column_47     the column behind the name alone, and the last alone
+--     by_none                        all blank, though columns beside them aren't
 -- Assumes nothing.
 use mathlib.Core.Path.{◌≡◌, refl}
 use mathlib.Core.Bool.{true, false}

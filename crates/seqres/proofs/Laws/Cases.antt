@@ -1,6 +1,6 @@
 -- What the definitions give for lines, so that code and definition can't go wrong together.
 --     all-thirteen     thirteen triples are read
---     blank-second     three blanks in the second's own columns end them
+--     blank_second     three blanks in the second's own columns end them
 --     second_at        the second stands at 23
 -- Assumes nothing.
 use mathlib.Core.Path.{◌≡◌, refl}

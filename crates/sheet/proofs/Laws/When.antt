@@ -1,7 +1,7 @@
 -- When a line is refused, in words of numbers: what the tests of the contracts tell.
---     misfit-tells     a field's test fails exactly when the field doesn't fit
---     written-when     what writing a sheet answers exactly when, and the lent bytes afterwards
---     first-lowest     the first field that doesn't fit is the lowest by column
+--     misfit_tells     a field's test fails exactly when the field doesn't fit
+--     written_when     what writing a sheet answers exactly when, and the lent bytes afterwards
+--     first_lowest     the first field that doesn't fit is the lowest by column
 --     decimal-long     a number has more than w digits exactly when it is 10 ^ w at least
 --     charge-long      a charge doesn't fit its two columns exactly when it is above 9 or below -9
 -- Assumes nothing.

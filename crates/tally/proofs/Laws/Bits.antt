@@ -1,8 +1,8 @@
 -- Which numbers differ, as bits.
 --     differing-next, differing-end     one place more, and none
---     differing-lt                      as many bits as places
+--     differing_lt                      as many bits as places
 --     Upto, turn-room, turn-again       a turn of the loop over the places
---     bit-differs                       bit n is set exactly when the n-th numbers differ
+--     bit_differs                       bit n is set exactly when the n-th numbers differ
 -- Assumes nothing.
 use Prim.Native.Nat.{ℕ, zero, suc, ◌+◌, ◌*◌, ◌-◌, ◌%◌, ◌^◌, ◌≤◌, ◌<◌}
 use mathlib.Core.Path.{◌≡◌, refl, sym, ap}

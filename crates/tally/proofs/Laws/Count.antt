@@ -1,8 +1,8 @@
 -- After every prefix of a file's lines the tally is the count over those lines.
 --     tallied-count     the tally of lines that are fewer than 2^64-1 is the count over them
 --     tallied-split     lines after lines
---     prefix-count      "after every prefix of the file it equals the count over those lines"
---     prefix-next       so one line more of a file makes of the count over the lines before it the count over these and it
+--     prefix_count      "after every prefix of the file it equals the count over those lines"
+--     prefix_next       so one line more of a file makes of the count over the lines before it the count over these and it
 --     counts_all        the tally's twelve numbers are the counts at the twelve places, the second among them
 -- Assumes nothing.
 use Prim.Native.Nat.{ℕ, suc, ◌+◌, ◌-◌, ◌^◌, ◌<◌, min}

@@ -1,12 +1,12 @@
 -- Laws of a line's name, and of the number that counts it.
---     byte-in                   a byte of a line, whatever stands for one that isn't there
---     key_more, key-room,       one byte more of a name: the number's next digit
---     key-next
---     number-by-key             a name is found by its number
---     master-by-key             and so is a MASTER line
---     key-found                 what a `match` finds at a number
+--     byte_in                   a byte of a line, whatever stands for one that isn't there
+--     key_more, key_room,       one byte more of a name: the number's next digit
+--     key_next
+--     number_by_key_lem             a name is found by its number
+--     master_by_key             and so is a MASTER line
+--     key_found                 what a `match` finds at a number
 --     none_found                what a `match` leaves to its last arm
---     never-second              no line counts for the second number
+--     never_second              no line counts for the second number
 -- Assumes nothing.
 use Prim.Native.Nat.{ℕ, suc, ◌+◌, ◌*◌, ◌^◌, ◌≤◌, ◌<◌}
 use mathlib.Core.Path.{◌≡◌, refl, ◌∙◌}

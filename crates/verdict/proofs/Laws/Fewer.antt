@@ -1,5 +1,5 @@
 -- Whether one of some counts is below what is said in its place.
---     fewer-here, fewer-next, fewer-end     one place further: it is, it isn't, and there is none
+--     fewer_here, fewer-next, fewer-end     one place further: it is, it isn't, and there is none
 --     lacks-first, lacks_rest               lines are missing, by the first number and by those behind the second
 -- Assumes nothing.
 use Prim.Native.Nat.{ℕ, ◌+◌, ◌≤◌, ◌<◌}

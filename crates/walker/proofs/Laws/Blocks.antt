@@ -1,7 +1,7 @@
 -- Laws of a block of bytes in which an LF is looked for.
---     lf-hit, lf-miss     one byte further
+--     lf_hit, lf-miss     one byte further
 --     lf-all              the end
---     block-free          bytes without an LF are passed as a whole
+--     block_free          bytes without an LF are passed as a whole
 -- Assumes nothing.
 use Prim.Native.Nat.{ℕ, suc, ◌+◌, ◌-◌, ◌≤◌, ◌<◌}
 use mathlib.Core.Path.{◌≡◌, refl, sym, ◌∙◌}

@@ -1,6 +1,6 @@
 -- Laws of a piece: the bytes up to an LF, or up to the end of the file.
 --     length_taken, taken-le, taken-some     a line is within what it takes up, which is some of the text
---     lf-here, lf-other, lf-none             one byte further, and the end, for the loop that looks for the LF
+--     lf_here, lf-other, lf-none             one byte further, and the end, for the loop that looks for the LF
 --     end_none, end-cr, end-other            where a line ends, by the byte just before its LF: none, a CR, or another
 --     step-lf, step-last                     the step to a line that an LF ends, and to a last piece without one
 -- Assumes nothing.

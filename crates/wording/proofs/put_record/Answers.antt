@@ -12,7 +12,7 @@ returns-then-out-lt34 c = fills-few _ _ c.if-out-lt34.true
 pub bounds-out-1 : goal.bounds-out-1
 bounds-out-1 c =
     let room = c.if-out-lt34.false in
-    let same = c.put_by_rows-end.auto.0 in
+    let same = c.put_by_rows-end.auto.out in
     simp length-set (omega arith)
 
 pub returns : goal.returns

@@ -1,6 +1,6 @@
 -- When a record's line is refused, in words of numbers.
 --     item-ascends      the columns of every record's line ascend
---     record-when       the answer for every record, and the lent bytes
+--     record_when       the answer for every record, and the lent bytes
 --     other-refused     a record of another kind is refused for its name
 --     row_first         a row above 2 is refused before every other field
 -- Assumes nothing.

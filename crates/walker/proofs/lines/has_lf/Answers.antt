@@ -12,8 +12,8 @@ loop-i-preserved c =
     let loop = c.loop-i in
     let h = c.loop-i-test.true in
     elim c.if-bytes-i-eq10.branch [
-      then-bytes-i-eq10 w ↦ lf_hit t loop.i h loop.found loop.invariant _ w.if-bytes-i-eq10.true w.found-is
-    | else-bytes-i-eq10 w ↦ lf-miss t loop.i h loop.found loop.invariant _ w.if-bytes-i-eq10.false w.found-is
+      | then-bytes-i-eq10 w ↦ lf_hit t loop.i h loop.found loop.invariant _ w.if-bytes-i-eq10.true w.found-is
+      | else-bytes-i-eq10 w ↦ lf-miss t loop.i h loop.found loop.invariant _ w.if-bytes-i-eq10.false w.found-is
     ]
 
 pub returns : goal.returns

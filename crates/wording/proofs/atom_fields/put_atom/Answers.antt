@@ -32,13 +32,13 @@ end-any l segment element charge = refl
 pub put_residue-third-requires : goal.put_residue-third-requires
 put_residue-third-requires c =
     let first = c.put_name-second in
-    omega (arith, puts-most _ _ 3 refl first.ensures, first.auto.0, c.requires)
+    omega (arith, puts-most _ _ 3 refl first.ensures, first.auto.out, c.requires)
 
 pub put_reals-fourth-requires : goal.put_reals-fourth-requires
 put_reals-fourth-requires c =
     let first = c.put_name-second in
     let second = c.put_residue-third in
-    omega (arith, puts-most _ _ 3 refl first.ensures, first.auto.0, puts-most _ _ 4 refl second.ensures, second.auto.0, c.requires)
+    omega (arith, puts-most _ _ 3 refl first.ensures, first.auto.out, puts-most _ _ 4 refl second.ensures, second.auto.out, c.requires)
 
 pub put_end-requires : goal.put_end-requires
 put_end-requires c =
@@ -46,7 +46,7 @@ put_end-requires c =
     let second = c.put_residue-third in
     let third = c.put_reals-fourth in
     omega
-    (arith, puts-most _ _ 3 refl first.ensures, first.auto.0, puts-most _ _ 4 refl second.ensures, second.auto.0, puts-most _ _ 5 refl third.ensures, third.auto.0, c.requires)
+    (arith, puts-most _ _ 3 refl first.ensures, first.auto.out, puts-most _ _ 4 refl second.ensures, second.auto.out, puts-most _ _ 5 refl third.ensures, third.auto.out, c.requires)
 
 pub returns : goal.returns
 returns c =

@@ -11,7 +11,7 @@ put_two-fourth-requires c =
     let few = character_two c.args.line.now 21 c.args.chain in
     let first = c.put_two-second in
     let second = c.put_character-third in
-    omega (arith, few, first.ensures.behind, first.auto.0, second.ensures.behind, second.auto.0, c.requires)
+    omega (arith, few, first.ensures.behind, first.auto.out, second.ensures.behind, second.auto.out, c.requires)
 
 pub put_character-requires : goal.put_character-requires
 put_character-requires c =
@@ -19,7 +19,7 @@ put_character-requires c =
     let first = c.put_two-second in
     let second = c.put_character-third in
     let third = c.put_two-fourth in
-    omega (arith, few, first.ensures.behind, first.auto.0, second.ensures.behind, second.auto.0, third.ensures.behind, third.auto.0, c.requires)
+    omega (arith, few, first.ensures.behind, first.auto.out, second.ensures.behind, second.auto.out, third.ensures.behind, third.auto.out, c.requires)
 
 pub returns : goal.returns
 unfolding row_words
