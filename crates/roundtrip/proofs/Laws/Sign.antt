@@ -48,6 +48,8 @@ sign-out q (fin t m k) s n e = within-sign t s (closest (m * up k * 10 ^ q) (dow
 
 value-sign : (x : Float) (s : Bool) (a c : ℕ) → HasValue x s a c → negative x ≡ s
 value-sign (fin t m k) s a c v = v.0
+value-sign nan s a c v = elim v [ ]
+value-sign (inf _) s a c v = elim v [ ]
 
 -- ---- and what is read has the sign that is written
 pub written-sign : (q : ℕ) (x : Float) (s : Bool) (n : ℕ) → places_of q x ≡ Rounded s n
