@@ -8,7 +8,7 @@ use Rattle.line.specs.declared.columns.Columns.{Columns}
 use Rattle.line.specs.declared.fault.FaultKind.TheVariants.{NoDigit, NoSign}
 use Rattle.line.specs.declared.fault.Fault.{Fault}
 use Rattle.line.specs.declared.fault.Faults.{Faults}
-use Rattle.field.specs.Number.{fault_at, is_fine}
+use Rattle.field.specs.Number.{is_fine}
 use Rattle.field.specs.declared.number_field.FineSigned.{FineSigned}
 use Rattle.field.specs.declared.number_field.GotSigned.{GotSigned}
 

@@ -5,7 +5,7 @@
 -- Columns count from 0, and `a ⋯ b` excludes b. The format counts from 1 and includes both ends: its own numbers stand in the comments, as
 -- `a-b`, with how sure they are. A: the source of a package quotes the format's table for this record, and others agree. B: the code of two
 -- packages uses these columns without quoting. C: from memory.
-use Rattle.std.specs.Prelude.{ℕ, ◌+◌, List, [], ◌∷◌, ◌++◌, map}
+use Rattle.std.specs.Prelude.{ℕ, List, [], ◌∷◌, ◌++◌, map}
 use Rattle.line.specs.Columns.{◌⋯◌, in_row}
 use Rattle.line.specs.declared.columns.Columns.{Columns}
 use Rattle.kind.specs.declared.Kind.{Kind}

@@ -9,7 +9,7 @@ use Rattle.lexitem.specs.declared.answer.Outcome.TheVariants.{Accepted, Refused}
 use Rattle.lexitem.specs.declared.answer.Refusal.{Refusal}
 use Rattle.lexitem.specs.Describe.{item_of}
 use Rattle.lexitem.specs.Fault.{no_line_faults, stamped_as}
-use Rattle.lexer.specs.Refusals.{Input, Test, Asking, tests, kind, given, faults}
+use Rattle.lexer.specs.Refusals.{Input, Test, tests, kind, given, faults}
 use Rattle.lexer.specs.Refusals.Asking.{its_kind, its_record, record_as}
 use Rattle.lexer.specs.declared.Asked.{Asked}
 use Rattle.lexer.specs.declared.Asked.TheVariants as asked

@@ -1,6 +1,5 @@
 -- A text as its bytes, so that definitions can be written with strings.
 use Rattle.std.specs.Prelude.{ℕ, List, [], ◌∷◌}
-use Prim.Native.String
 use Prim.Native.String.{String}
 use Prim.Native.Char.{code}
 

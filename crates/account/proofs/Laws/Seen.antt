@@ -20,7 +20,7 @@ use Rattle.field.specs.Text.{text_faults, character_faults}
 use Rattle.kind.specs.Kind.{kind_of, kind_by, names, short_names, same}
 use Rattle.kind.specs.declared.Kind.{Kind}
 use Rattle.kind.specs.declared.Kind.TheVariants.{Empty, Header, Remark, Atom, Hetatm, Anisou, Cryst1, Scale, Origx, Mtrix, Model, Master, Dbref, Dbref1, Dbref2, Seqres, Seqadv, Modres, Ssbond, Endmdl, Ter, End}
-use Rattle.lexer.specs.Refusals.{kind, given as given_of, faults}
+use Rattle.lexer.specs.Refusals.{given as given_of, faults}
 use Rattle.lexitem.specs.Describe.{fields_by, faults_of}
 use Rattle.line.specs.Bytes.{bytes}
 use Rattle.line.specs.Columns.{part_of, rest_of}

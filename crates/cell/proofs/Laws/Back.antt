@@ -3,7 +3,7 @@
 --     factor-back                    one of ANISOU's six in four places, as the same integer
 -- Assumes nothing.
 use mathlib.Core.Path.{◌≡◌, refl, sym, ap, ◌∙◌}
-use Prim.Native.Nat.{ℕ, suc, ◌-◌, ◌*◌, ◌^◌, ◌≤◌, ◌<◌}
+use Prim.Native.Nat.{ℕ, suc, ◌-◌, ◌*◌, ◌^◌, ◌<◌}
 use native.Mathlib.Nat.{le_refl, mul-one}
 use native.Mathlib.Omega.{arith}
 use mathlib.Core.Bool.{true, false}

@@ -2,11 +2,11 @@
 -- Assumes nothing.
 use mathlib.Core.Path.{◌≡◌, refl, sym, ap, ◌∙◌}
 use Prim.Native.Nat.{ℕ, zero, suc, ◌+◌, ◌-◌, ◌*◌, ◌/◌, ◌%◌, ◌^◌, ◌≤◌, ◌<◌, compare}
-use native.Mathlib.Nat.{le_refl, le_trans, le_of_eq, le_of_lt, lt_of_le_of_lt, mod-lt, mul-one, one-mul, mul_assoc, mul_comm, mul_left_comm, mul_right_comm, mul-le-mul_left, mul-le-mul_right, le-mul_of_pos_right, mul-le-mul, le-div_iff_mul-le, zero-lt-suc, one-le-pow, pow-le-pow_right, pow-succ'}
+use native.Mathlib.Nat.{le_trans, le_of_lt, lt_of_le_of_lt, mod-lt, mul_assoc, mul_comm, mul_left_comm, mul-le-mul_left, mul-le-mul_right, le-mul_of_pos_right, le-div_iff_mul-le, zero-lt-suc, one-le-pow, pow-le-pow_right, pow-succ'}
 use native.Mathlib.Omega.{arith}
 use borrow.Author.Tests.{le-ltb, ne_eqb}
 use mathlib.Core.Bool.{Bool, true, false, not, cond}
-use lib.Dec.{T, leb, ltb, eqb, lit≤, lit<}
+use lib.Dec.{T, leb, eqb, lit≤, lit<}
 use lib.Pow.{pow-add, pow_pos, pow_mono, shl_lt}
 use lib.Ieee.{Float, nan, inf, fin, binary64, odd, of_fields, of_bits, to_bits, fits, is_nan, ne}
 use lib.Ieee.Bits.{of_bits-to_bits}
@@ -15,7 +15,6 @@ use lib.Ieee.Exact.{HasValue, odd_sign}
 use lib.Ieee.Nearest.{closest, closest_same, nearest-ge}
 use Rattle.real.specs.Near.{apart}
 use Rattle.cell.specs.Places.{within, rounded_to}
-use Rattle.cell.specs.declared.places.Places.{Places}
 use Rattle.cell.specs.declared.places.Places.TheVariants.{Rounded, NoFit}
 use Rattle.cell.proofs.Laws.Closest.{closest_is}
 use Rattle.cell.proofs.Laws.Places.{places-value, within-few}

@@ -2,8 +2,8 @@
 --     closest_is                           what is less than half a unit off is the nearest
 --     closest-below, closest-tie, closest-above    the nearest number by the quotient and what is left
 -- Assumes nothing.
-use mathlib.Core.Path.{◌≡◌, refl, sym, ap, ◌∙◌}
-use Prim.Native.Nat.{ℕ, zero, suc, ◌+◌, ◌-◌, ◌*◌, ◌/◌, ◌%◌, ◌^◌, ◌≤◌, ◌<◌, compare, Ordering}
+use mathlib.Core.Path.{◌≡◌, refl, ap, ◌∙◌}
+use Prim.Native.Nat.{ℕ, suc, ◌+◌, ◌*◌, ◌/◌, ◌%◌, ◌≤◌, ◌<◌, compare, Ordering}
 use native.Mathlib.Nat.{le_antisymm, le_of_suc-le-suc, lt_of_not-le, suc-mul, mul_assoc, mul_right_comm, add-mul, mul-le-mul_right, div-add-mod', mod-lt}
 use native.Mathlib.Omega.{arith}
 use mathlib.Core.Bool.{not}

@@ -7,7 +7,7 @@
 --     placed, places_are                   what has so many places has no more than nine, and of nine or less it is the nearest decimal
 -- Assumes nothing.
 use mathlib.Core.Path.{◌≡◌, refl, sym, ap, ◌∙◌}
-use Prim.Native.Nat.{ℕ, suc, ◌+◌, ◌-◌, ◌*◌, ◌^◌, ◌≤◌, ◌<◌}
+use Prim.Native.Nat.{ℕ, ◌-◌, ◌*◌, ◌^◌, ◌≤◌, ◌<◌}
 use native.Mathlib.Nat.{le_refl, le_trans, le_of_lt, mul-one, mul_assoc, mul_comm, mul_right_comm, mul_left_comm, mul-le-mul_right, add-sub_of_le, sub_self, zero-lt-suc, one-le-pow, pow-le-pow_right}
 use native.Mathlib.Omega.{arith}
 use borrow.Author.Tests.{lt-ltb, ltb-true, le-leb, leb-true}
@@ -15,7 +15,7 @@ use mathlib.Core.Bool.{Bool, true, false, cond}
 use lib.Dec.{leb, ltb, lit≤}
 use lib.IntN.{pos}
 use lib.Pow.{pow-add, pow_pos}
-use lib.Ieee.{Float, nan, inf, fin, up, down, binary64, round, of_int, div, neg}
+use lib.Ieee.{Float, nan, inf, fin, up, down, binary64, round, of_int, div}
 use lib.Ieee.Exact.{HasValue}
 use lib.Ieee.Fits.{down_pos}
 use lib.Ieee.Nearest.{closest, closest_same}
@@ -26,7 +26,6 @@ use Rattle.real.proofs.Laws.Apart.{apart_times}
 use Rattle.real.proofs.Laws.Quotient.{double-near}
 use Rattle.real.proofs.Laws.Value.{integer-value, quotient_round}
 use Rattle.cell.specs.Places.{within, rounded_to, places_of}
-use Rattle.cell.specs.declared.places.Places.{Places}
 use Rattle.cell.specs.declared.places.Places.TheVariants.{Rounded, NoFit}
 use Rattle.cell.proofs.Laws.Closest.{closest_is}
 

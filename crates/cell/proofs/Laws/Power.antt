@@ -3,7 +3,7 @@
 --     power_next     one more multiplication gives the next power
 --     power_few      of a base up to ten, nine times and no more: the next product is small
 -- Assumes nothing.
-use Prim.Native.Nat.{ℕ, ◌+◌, ◌*◌, ◌^◌, ◌≤◌, ◌<◌}
+use Prim.Native.Nat.{ℕ, ◌+◌, ◌*◌, ◌^◌, ◌≤◌}
 use mathlib.Core.Path.{◌≡◌, refl, sym}
 use native.Mathlib.Nat.{le_trans, mul-le-mul, pow-le-pow_left, pow-le-pow_right, pow-suc, pow-zero, zero-lt-suc}
 use native.Mathlib.Numerals.{add-one}

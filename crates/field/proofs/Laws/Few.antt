@@ -13,7 +13,7 @@ use mathlib.Core.List.{List, [], ◌∷◌}
 use native.Mathlib.Omega.{arith}
 use borrow.Author.Tests.{leb-true, lt-ltb, le-ltb}
 use lib.ListN.{length, length-append}
-use lib.Dec.{leb, ltb, lit≤}
+use lib.Dec.{leb, lit≤}
 use Rattle.number.specs.Whole.{unsigned_of}
 use Rattle.line.specs.Columns.{rest_of}
 use Rattle.line.specs.Given.{Given}

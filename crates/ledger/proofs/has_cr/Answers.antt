@@ -1,6 +1,5 @@
 -- `ledger::has_cr` meets its contract. The loop's invariant: the bytes that are left tell what all of them do.
 -- Assumes nothing.
-use Prim.Native.Nat.{◌-◌}
 use mathlib.Core.Path.{refl}
 use borrow.Author.Tests.{eq-eqb, ne_eqb}
 use Rattle.ledger.specs.Ledger.{is_cr}

@@ -7,7 +7,7 @@
 --     asked-split      its kind: 2 and 3
 -- Assumes nothing.
 use Prim.Native.Nat.{ℕ, ◌-◌}
-use mathlib.Core.Path.{◌≡◌, refl, sym, ap, ◌∙◌}
+use mathlib.Core.Path.{◌≡◌, refl, ◌∙◌}
 use mathlib.Core.Bool.{Bool, true, false, cond, not, ◌&&◌}
 use mathlib.Core.List.{List, [], ◌∷◌, ◌++◌}
 use native.Mathlib.Omega.{arith}
@@ -21,18 +21,16 @@ use Rattle.line.specs.Faults.{no_faults}
 use Rattle.line.specs.declared.options.Options.{Options}
 use Rattle.kind.specs.Kind.{kind_of, number_of}
 use Rattle.kind.specs.declared.Kind.{Kind}
-use Rattle.lexitem.specs.declared.answer.Answer.{Answer}
 use Rattle.lexitem.specs.declared.answer.Refusal.{Refusal}
 use Rattle.lexitem.specs.Answer.{refusal}
 use Rattle.lexitem.specs.Describe.{bound_of, fields_by, faults_of}
 use Rattle.lexitem.specs.Read.{got_item}
 use Rattle.lexitem.specs.declared.bound.Bound.{Bound}
 use Rattle.lexitem.specs.declared.bound.Bound.TheVariants as bound
-use Rattle.lexer.specs.Refusals.{Input, Test, Asking, kind, given, line_tests, own_tests, test}
-use Rattle.lexer.specs.Refusals.Asking.{its_kind, its_record, record_as}
-use Rattle.lexer.specs.Lexed.{refused, accepted, first_of, lexed, lexed_as, bare, kind_asked}
+use Rattle.lexer.specs.Refusals.{Input, Test, kind, given, line_tests, own_tests, test}
+use Rattle.lexer.specs.Refusals.Asking.{its_record}
+use Rattle.lexer.specs.Lexed.{refused, accepted, first_of, lexed, lexed_as, kind_asked}
 use Rattle.lexer.specs.Steps.{first_refusal, entry_tests, own_refusal, header_refusal, remark_refusal, least_refusal, answer_of, read_as}
-use Rattle.lexer.specs.declared.Asked.{Asked}
 use Rattle.lexer.specs.declared.Asked.TheVariants as asked
 
 -- three tests whose third fails

@@ -1,6 +1,5 @@
 -- `lexer::first_high` meets its contract. The loop's invariant: the bytes passed, and those before the first high one from here.
 -- Assumes nothing.
-use Prim.Native.Nat.{◌-◌}
 use native.Mathlib.Omega.{arith}
 use lib.ListN.{drop, length-drop}
 use Rattle.lexer.proofs.Laws.Plain.{plain-on, plain-stop, plain-le}

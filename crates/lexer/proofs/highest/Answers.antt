@@ -1,6 +1,5 @@
 -- `lexer::highest` meets its contract. The loop's invariant: the highest of all bytes is that of those from here, behind the one held.
 -- Assumes nothing.
-use Prim.Native.Nat.{◌-◌}
 use mathlib.Core.Path.{◌≡◌, refl, sym, ◌∙◌}
 use native.Mathlib.Omega.{arith}
 use lib.ListN.{length}

@@ -12,7 +12,6 @@ use Rattle.lexer.specs.Lexed.{lexed}
 use Rattle.lexer.specs.Refusals.{Input, kind, given}
 use Rattle.lexitem.proofs.Laws.Few.{faults_fifteen}
 use Rattle.lexer.proofs.Laws.Accepted.{accepted-count}
-use Rattle.lexitem.specs.Fault.{told, faults_in}
 use Rattle.lexitem.proofs.Laws.Fault.{told_in}
 use Rattle.lexitem.specs.declared.answer.Answer.{Answer}
 use Rattle.lexitem.specs.declared.answer.Outcome.TheVariants.{Accepted, Refused}

@@ -21,7 +21,6 @@ use Rattle.line.specs.declared.fault.Fault.{Fault}
 use Rattle.line.specs.declared.fault.FaultKind.{FaultKind}
 use Rattle.line.specs.declared.fault.FaultKind.TheVariants.{Short, Wrong, NoDigit, NoSign, Unknown}
 use Rattle.lexitem.specs.declared.item.LexItem.{LexItem}
-use Rattle.lexitem.specs.declared.item.LexItem.TheVariants as item
 use Rattle.page.specs.Numerals.{decimal_before, decimal}
 use Rattle.lexitem.specs.Describe.{describe, fields_by, item_of, fields_of, kind_of_item}
 use Rattle.lexitem.specs.Shown.{shown, sorted}

@@ -26,7 +26,6 @@ use Rattle.line.specs.declared.text.Text.{Text}
 use Rattle.line.specs.declared.text.Character.TheVariants.{At, Unreached, Absent}
 use Rattle.line.specs.declared.text.Field.{Field}
 use Rattle.line.specs.declared.text.Field.TheVariants as field
-use Rattle.row.specs.declared.Value.TheVariants.{Words, One}
 use Rattle.margins.proofs.Laws.Parts.{slice_same}
 
 -- ---- where a text lies

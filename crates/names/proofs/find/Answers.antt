@@ -1,6 +1,5 @@
 -- `names::find` meets its contract. The loop's invariant: the place is as far from here as it is among those that are left.
 -- Assumes nothing.
-use Prim.Native.Nat.{◌-◌}
 use native.Mathlib.Nat.{zero-add}
 use Rattle.names.proofs.Laws.Place.{place_here, place-next, place_end}
 use borrow.Author.Rules.{rules}

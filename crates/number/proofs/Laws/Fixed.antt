@@ -23,7 +23,7 @@ use Rattle.number.proofs.Laws.Choice.{and_left, and_right, and_both}
 use Rattle.number.proofs.Laws.Digits.{digits_append, value-append}
 use Rattle.number.proofs.Laws.Trim.{trimmed-le}
 use Rattle.number.proofs.Laws.Grammar.{unsigned-read, signed-read, decimal-read}
-use Rattle.number.proofs.Laws.Shape.{SaysWord, filled-said}
+use Rattle.number.proofs.Laws.Shape.{filled-said}
 
 -- ---- a text without white bytes behind blanks: trim leaves it
 abbrev Black : List ℕ → Type 0

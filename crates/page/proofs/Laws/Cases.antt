@@ -1,7 +1,6 @@
 -- What the definitions give at their edges, so that no wrong constant in them goes unseen.
 -- Assumes nothing.
 use Prim.Native.Nat.{ℕ}
-use Prim.Native.String
 use Prim.Native.String.{String}
 use Prim.Native.Char.{code}
 use mathlib.Core.Path.{◌≡◌, refl}

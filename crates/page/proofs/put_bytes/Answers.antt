@@ -1,6 +1,5 @@
 -- `page::put_bytes` meets its contract. The loop's invariant: with the rest of the text, the page is as the whole text leaves it.
 -- Assumes nothing.
-use Prim.Native.Nat.{◌-◌}
 use Rattle.page.proofs.Laws.Page.{put_next, put-done}
 use borrow.Author.Rules.{rules}
 use Rattle.page.proofs.put_bytes.Goals as goal

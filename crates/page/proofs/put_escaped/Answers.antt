@@ -1,6 +1,5 @@
 -- `page::put_escaped` meets its contract. The loop's invariant: with the rest of the text escaped, the page is as the whole text leaves it.
 -- Assumes nothing.
-use Prim.Native.Nat.{◌-◌}
 use Rattle.page.proofs.Laws.Escaped.{escaped-next, escaped-done}
 use borrow.Author.Rules.{rules}
 use Rattle.page.proofs.put_escaped.Goals as goal

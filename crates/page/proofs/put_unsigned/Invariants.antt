@@ -1,7 +1,7 @@
 -- `page::put_unsigned` meets its contract. The loop's invariant: the digits of the rest in front of those gathered are the number's, and
 -- the rest has at most as many digits as there is room.
 -- Assumes nothing.
-use Prim.Native.Nat.{◌-◌, ◌^◌, ◌≤◌, ◌<◌}
+use Prim.Native.Nat.{◌^◌, ◌≤◌, ◌<◌}
 use mathlib.Core.Path.{◌≡◌}
 use lib.ListN.{length, drop}
 use Rattle.page.specs.Numerals.{decimal_before, decimal}

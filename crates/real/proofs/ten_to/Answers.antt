@@ -1,6 +1,5 @@
 -- `real::ten_to` meets its contract. The loop's invariant: after i turns n is 10 ^ i.
 -- Assumes nothing.
-use Prim.Native.Nat.{◌-◌}
 use mathlib.Core.Path.{◌≡◌, refl, ◌∙◌}
 use native.Mathlib.Omega.{arith}
 use Rattle.real.proofs.Laws.Powers.{ten_next, ten_few}

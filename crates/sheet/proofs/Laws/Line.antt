@@ -5,14 +5,13 @@
 --     drawn-writes         drawn, ruled off and ended, a sheet is written
 -- Assumes nothing.
 use mathlib.Core.Path.{◌≡◌, refl, sym, ap, ◌∙◌}
-use Prim.Native.Nat.{ℕ, ◌+◌, ◌-◌, ◌^◌, ◌≤◌, ◌<◌}
+use Prim.Native.Nat.{ℕ, ◌-◌, ◌^◌, ◌≤◌, ◌<◌}
 use native.Mathlib.Omega.{arith}
 use mathlib.Core.Bool.{Bool, true, false, cond, ◌&&◌, ◌||◌}
 use mathlib.Core.List.{List, [], ◌∷◌, ◌++◌, append_assoc, append-nil}
 use borrow.Author.Tests.{leb-true, ltb-true, ltb-false, lt-ltb}
 use lib.ListN.{length, drop, length-append, drop_of_length-le}
 use lib.Dec.{leb, ltb}
-use Rattle.line.specs.Columns.{◌⋯◌}
 use Rattle.line.specs.declared.columns.Columns.{Columns}
 use Rattle.page.specs.Page.{Page, page, put}
 use Rattle.page.proofs.Laws.Page.{put-append, put-at, put_count, put_front}

@@ -1,7 +1,6 @@
 -- `sheet::copy` meets its contract: so many bytes are the line's, and the others as they were.
 -- Assumes nothing.
 use mathlib.Core.Path.{refl, ap, ◌∙◌}
-use Prim.Native.Nat.{◌-◌}
 use native.Mathlib.Omega.{arith}
 use lib.ListN.{length}
 use Rattle.sheet.proofs.Laws.Copy.{copied-length, copied_next, copied_all}

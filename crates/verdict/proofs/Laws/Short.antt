@@ -10,7 +10,6 @@ use lib.Dec.{eqb, lit≤}
 use lib.ListN.{length, length-append}
 use Rattle.audit.specs.declared.Checked.{Checked}
 use Rattle.audit.specs.declared.Checked.TheVariants as checked
-use Rattle.audit.specs.declared.Compared.{Compared}
 use Rattle.layout.specs.Label.{three_row}
 use Rattle.line.specs.Bytes.{bytes}
 use Rattle.master.specs.declared.record.Master.{Master}

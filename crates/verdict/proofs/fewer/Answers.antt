@@ -1,6 +1,5 @@
 -- `verdict::fewer` meets its contract. The loop's invariant: the places that are left tell what all of them do.
 -- Assumes nothing.
-use Prim.Native.Nat.{◌-◌}
 use mathlib.Core.Path.{refl}
 use Rattle.verdict.proofs.Laws.Fewer.{fewer_here, fewer-next, fewer-end}
 use Rattle.verdict.proofs.fewer.Goals as goal

@@ -1,6 +1,5 @@
 -- `account::rows::is_cut` meets its contract. The loop's invariant: the faults from the place on answer what all of them do.
 -- Assumes nothing.
-use Prim.Native.Nat.{◌-◌}
 use native.Mathlib.Omega.{arith}
 use Rattle.account.proofs.Laws.Loops.{cut-found, cut-next, cut-done}
 use borrow.Author.Rules.{rules}

@@ -1,6 +1,6 @@
 -- `account::text::put_marked` meets its contract. The loop's invariant: with the rest of the text, the page is as the whole text leaves it.
 -- Assumes nothing.
-use Prim.Native.Nat.{ℕ, ◌-◌}
+use Prim.Native.Nat.{ℕ}
 use mathlib.Core.List.{[], ◌∷◌}
 use Rattle.layout.proofs.Laws.Each.{each_next, each-done}
 use Rattle.account.specs.Account.{mark}

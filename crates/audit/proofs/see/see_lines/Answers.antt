@@ -1,7 +1,6 @@
 -- `audit::see::see_lines` meets its contract. The loop's invariant: with the lines that are left, what is known comes to what it does with all of
 -- them.
 -- Assumes nothing.
-use Prim.Native.Nat.{◌-◌}
 use mathlib.Core.Path.{refl, sym, ◌∙◌}
 use native.Mathlib.Omega.{arith}
 use Rattle.audit.proofs.Laws.Turn.{turn_end, turn-next, turn-moves}

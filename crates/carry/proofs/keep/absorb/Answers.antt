@@ -1,6 +1,5 @@
 -- `carry::keep::absorb` meets its contract: at each turn, what the bytes that are left would leave is what all of them leave (Laws.Keep).
 -- Assumes nothing.
-use Prim.Native.Nat.{◌-◌}
 use mathlib.Core.Path.{refl}
 use native.Mathlib.Omega.{arith}
 use Rattle.carry.proofs.Laws.Keep.{keep-made, absorb_here, absorb_next, absorb_none}

@@ -1,6 +1,5 @@
 -- `cell::power::raised` meets its contract. The loop's invariant: after i turns n is base ^ i.
 -- Assumes nothing.
-use Prim.Native.Nat.{◌-◌}
 use mathlib.Core.Path.{◌≡◌, refl, ◌∙◌}
 use native.Mathlib.Omega.{arith}
 use Rattle.cell.proofs.Laws.Power.{power_none, power_next, power_few}

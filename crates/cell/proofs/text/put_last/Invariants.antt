@@ -1,6 +1,6 @@
 -- `cell::text::put_last` meets its contract. The loop's invariant: the digits that are left go before those that were found.
 -- Assumes nothing.
-use Prim.Native.Nat.{◌-◌, ◌≤◌}
+use Prim.Native.Nat.{◌≤◌}
 use mathlib.Core.Path.{◌≡◌}
 use mathlib.Core.List.{[]}
 use lib.ListN.{length, drop}

@@ -1,6 +1,5 @@
 -- `cell::words::is_printable` meets its contract. The loop's invariant: the rest is printable if the text is.
 -- Assumes nothing.
-use Prim.Native.Nat.{◌-◌}
 use mathlib.Core.Path.{refl}
 use Rattle.cell.proofs.Laws.Words.{printable-low, printable-high, printable-next, printable-done}
 use borrow.Author.Rules.{rules}

@@ -2,7 +2,6 @@
 -- Assumes nothing.
 use mathlib.Core.Path.{refl, sym, ◌∙◌}
 use native.Mathlib.Omega.{arith}
-use borrow.Author.Tests.{not-true, not-false}
 use Rattle.cell.proofs.Laws.Words.{lent_other, lent_odd, lent-whole}
 use Rattle.cell.proofs.words.put_lent.Goals as goal
 

@@ -2,7 +2,6 @@
 -- Assumes nothing.
 use mathlib.Core.Path.{refl, sym, ◌∙◌}
 use native.Mathlib.Omega.{arith}
-use borrow.Author.Tests.{not-true, not-false}
 use Rattle.cell.proofs.Laws.Words.{words_long, words_odd, words_left, words_right}
 use Rattle.cell.proofs.words.put_words.Goals as goal
 

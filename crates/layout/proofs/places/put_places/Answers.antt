@@ -1,6 +1,5 @@
 -- `layout::places::put_places` meets its contract. The loop's invariant: with the rows that are left, the page is as all rows leave it.
 -- Assumes nothing.
-use Prim.Native.Nat.{◌-◌}
 use native.Mathlib.Omega.{arith}
 use Rattle.layout.specs.Places.{row_places}
 use Rattle.layout.proofs.Laws.Each.{each_next, each-done}

@@ -1,6 +1,5 @@
 -- `layout::rows::put_rows` meets its contract. The loop's invariant: with the rows that are left, the page is as all rows leave it.
 -- Assumes nothing.
-use Prim.Native.Nat.{◌-◌}
 use native.Mathlib.Omega.{arith}
 use Rattle.layout.specs.Row.{row_bytes}
 use Rattle.layout.proofs.Laws.Each.{each_next, each-done}

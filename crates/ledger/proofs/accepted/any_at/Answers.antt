@@ -1,6 +1,5 @@
 -- `ledger::accepted::any_at` meets its contract. The loop's invariant: the faults that are left tell what all of them do.
 -- Assumes nothing.
-use Prim.Native.Nat.{◌-◌}
 use mathlib.Core.Path.{refl, sym, ◌∙◌}
 use native.Mathlib.Omega.{arith}
 use Rattle.ledger.specs.Ledger.{is_at}

@@ -1,6 +1,5 @@
 -- `ledger::accepted::enter_faults` meets its contract. The loop's invariant: with the faults that are left, the words are as all faults leave them.
 -- Assumes nothing.
-use Prim.Native.Nat.{◌-◌}
 use mathlib.Core.Path.{refl}
 use native.Mathlib.Omega.{arith}
 use Rattle.ledger.proofs.Laws.Turns.{faults-next, faults-end}

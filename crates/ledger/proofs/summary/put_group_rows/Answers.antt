@@ -1,6 +1,5 @@
 -- `ledger::summary::put_group_rows` meets its contract. The loop's invariant: with the rows that are left, the page is as all rows leave it.
 -- Assumes nothing.
-use Prim.Native.Nat.{◌-◌}
 use mathlib.Core.Path.{refl}
 use Rattle.ledger.proofs.Laws.Rows.{groups-next, groups-end}
 use borrow.Author.Rules.{rules}

@@ -1,6 +1,5 @@
 -- `listing::fault::put_faults` meets its contract. The loop's invariant: with the faults that are left, the page is as all faults leave it.
 -- Assumes nothing.
-use Prim.Native.Nat.{◌-◌}
 use native.Mathlib.Omega.{arith}
 use Rattle.layout.specs.Fault.{fault_bytes}
 use Rattle.layout.proofs.Laws.Each.{front-next, front-done}

@@ -1,6 +1,5 @@
 -- `names::words::after` meets its contract. The loop's invariant: behind the first LF stands the same, from here on as from the start.
 -- Assumes nothing.
-use Prim.Native.Nat.{◌-◌}
 use mathlib.Core.Path.{refl}
 use Rattle.names.proofs.Laws.Words.{behind_here, behind-next, behind-end}
 use borrow.Author.Rules.{rules}

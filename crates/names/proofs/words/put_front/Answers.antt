@@ -1,6 +1,5 @@
 -- `names::words::put_front` meets its contract. The loop's invariant: with the rest of the word, the page is as the whole word leaves it.
 -- Assumes nothing.
-use Prim.Native.Nat.{◌-◌}
 use Rattle.names.proofs.Laws.Words.{front_here, front-next, front-end}
 use borrow.Author.Rules.{rules}
 use Rattle.names.proofs.words.put_front.Goals as goal

@@ -1,7 +1,6 @@
 -- `number::trim::leading_white` meets its contract. The loop's invariant: the white bytes at the front are those
 -- passed and those at the front of the rest.
 -- Assumes nothing.
-use Prim.Native.Nat.{◌-◌}
 use mathlib.Core.Path.{sym, ◌∙◌}
 use native.Mathlib.Omega.{arith}
 use borrow.Author.Rules.{rules}

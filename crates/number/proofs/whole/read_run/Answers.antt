@@ -1,6 +1,5 @@
 -- `number::whole::read_run` meets its contract. The loop's invariant: from here, with the number so far, the run is the whole text's.
 -- Assumes nothing.
-use Prim.Native.Nat.{◌-◌}
 use mathlib.Core.Path.{refl, sym, ◌∙◌}
 use native.Mathlib.Omega.{arith}
 use lib.ListN.{get_or}

@@ -1,6 +1,5 @@
 -- `number::wide::mark_at` meets its contract. The loop's invariant: the mark stands i bytes behind where it stands in what is left.
 -- Assumes nothing.
-use Prim.Native.Nat.{◌-◌}
 use mathlib.Core.Path.{sym, ◌∙◌}
 use native.Mathlib.Omega.{arith}
 use borrow.Author.Rules.{rules}

@@ -1,7 +1,6 @@
 -- `report::fill::put_reports` meets its contract: each turn puts one report behind those that were put (Laws.Turn), and stands further on in
 -- the file.
 -- Assumes nothing.
-use Prim.Native.Nat.{◌-◌}
 use mathlib.Core.Path.{sym, ◌∙◌}
 use native.Mathlib.Omega.{arith}
 use Rattle.report.proofs.Laws.Turn.{so-first, so-full, so-end, so-next, step-further}

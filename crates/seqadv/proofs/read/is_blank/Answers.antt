@@ -1,6 +1,5 @@
 -- `seqadv::read::is_blank` meets its contract. The loop's invariant: the bytes passed change nothing.
 -- Assumes nothing.
-use Prim.Native.Nat.{◌-◌}
 use mathlib.Core.Path.{refl, sym, ◌∙◌}
 use Rattle.seqadv.proofs.Laws.Blanks.{blanks-on, blanks-stop, blanks-end}
 use borrow.Author.Rules.{rules}

@@ -1,6 +1,5 @@
 -- `seqres::read::count_triples` meets its contract. The loop's invariant: the triples are those passed and those from here on.
 -- Assumes nothing.
-use Prim.Native.Nat.{◌-◌}
 use mathlib.Core.Path.{sym, ◌∙◌}
 use native.Mathlib.Omega.{arith}
 use Rattle.seqres.proofs.Laws.Triples.{triples-on, triples-short, triples-blank, triples_all}

@@ -1,6 +1,5 @@
 -- `tally::compare::bits_of` meets its contract. The loop's invariant: the bits are those of the places from i on.
 -- Assumes nothing.
-use Prim.Native.Nat.{◌+◌, ◌*◌, ◌^◌, ◌<◌}
 use mathlib.Core.Path.{◌≡◌}
 use native.Mathlib.Omega.{arith}
 use lib.ListN.{length}

@@ -1,6 +1,6 @@
 -- `tally::names::name_key` meets its contract: each turn is the name's next digit.
 -- Assumes nothing.
-use Prim.Native.Nat.{suc, ◌+◌, ◌-◌}
+use Prim.Native.Nat.{suc, ◌+◌}
 use mathlib.Core.Path.{◌≡◌, refl}
 use native.Mathlib.Omega.{arith}
 use Rattle.tally.proofs.Laws.Name.{key_more, key_room, key_next}

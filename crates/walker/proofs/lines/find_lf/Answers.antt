@@ -1,7 +1,6 @@
 -- `walker::lines::find_lf` meets its contract. A line of 80 bytes is told at once. The loop's invariant, which holds behind the blocks that were passed: the bytes before the LF are
 -- those passed and those before it in the rest.
 -- Assumes nothing.
-use Prim.Native.Nat.{◌-◌}
 use native.Mathlib.Omega.{arith}
 use borrow.Author.Rules.{rules}
 use Rattle.walker.proofs.Laws.Pieces.{lf_here, lf-other, lf-none}

@@ -1,7 +1,5 @@
 -- `walker::lines::has_lf` meets its contract. The loop's invariant: what was found with what is still to be looked at gives what all gives.
 -- Assumes nothing.
-use Prim.Native.Nat.{◌-◌}
-use mathlib.Core.Bool.{false}
 use Rattle.walker.proofs.Laws.Blocks.{lf_hit, lf-miss, lf-all}
 use Rattle.walker.proofs.lines.has_lf.Goals as goal
 use Rattle.walker.proofs.lines.has_lf.Goals.{then-bytes-i-eq10, else-bytes-i-eq10}
