@@ -9,15 +9,18 @@ FILE ?= examples/zinc.pdb
 # Of the library. The first number is the one that programs ask the loader for: it goes up when an entry goes or changes.
 version := 0.1.0
 
-program := target/bin/pdblist
-checker := target/bin/pdbmaster
-mender := target/bin/pdbmend
-reporter := target/bin/pdbreport
-server := target/bin/serve
+# What rt builds of a crate lies in its folder out/, and stays there behind `rt ci` too, but for archives, which that doesn't build.
+program := crates/pdblist/out/pdblist
+checker := crates/pdbmaster/out/pdbmaster
+mender := crates/pdbmend/out/pdbmend
+reporter := crates/pdbreport/out/pdbreport
+server := crates/serve/out/serve
+archive := crates/saltighedda_c/out/libsaltighedda_c.a
+timed := crates/bench_read/out/libbench_read.a
 library := target/staticlib/libsaltighedda.a
 known := libsaltighedda.so.$(firstword $(subst ., ,$(version)))
 shared := target/shared/libsaltighedda.so.$(version)
-sources := crates.txt $(shell find crates -type f)
+sources := crates.txt $(shell find crates -name out -prune -o -type f -print)
 
 .NOTPARALLEL:
 .PHONY: help list report master mend test needs format contracts hosts compare oracle differential bench install
@@ -46,29 +49,36 @@ master: $(checker)
 mend: $(mender)
 	@tools/run $(mender) < '$(FILE)'
 
-# Says nothing but what went wrong. A program is built once it is proved, and so is the library.
+# Says nothing but what went wrong. A program is built once it is proved, and so is a library.
 define quietly
-	@mkdir -p $(@D) target/make; \
+	@mkdir -p $(@D) target/make; log=$$PWD/target/make/$(@F).log; \
 	echo "$@ is being proved and built; from nothing that takes minutes" >&2; \
-	$(1) > target/make/$(@F).log 2>&1 || { cat target/make/$(@F).log >&2; exit 1; }; \
+	(cd $(@D)/.. && $(1)) > "$$log" 2>&1 < /dev/null || { cat "$$log" >&2; exit 1; }; \
 	touch $@
 endef
 
+# A program is run once it is built, here on nothing.
 $(program) $(checker) $(mender) $(reporter) $(server): $(sources)
-	$(call quietly,rt check $(@F))
+	$(call quietly,rt run)
 
-$(library): $(sources)
-	$(call quietly,rt staticlib saltighedda)
+$(archive) $(timed): $(sources)
+	$(call quietly,rt lib)
+
+$(library): $(archive)
+	@mkdir -p $(@D); cp $(archive) $@
 
 # Without a C compiler for x86-64 there is none, and that is said.
 $(shared): $(library) include/saltighedda.h tools/share tools/entries
 	@tools/share $(library) include/saltighedda.h $@ || [ $$? = 3 ]
 
-# What will be left out is told first, and the rest is tried once the proofs hold, the comparison beside the hosts. Their own count of what
-# passed and what failed is the last line printed.
-test: needs format contracts
+# What will be left out is told first, and the rest is tried once the proofs hold, the comparison beside the hosts. `rt ci` refuses what isn't laid
+# out, and passes must-fail edits that are bad, as it calls those that can't be applied or read: these are no must-fail edits, and not passed here.
+# Its own count of what passed and what failed is the last line printed.
+test: needs contracts
 	@log=$$(mktemp); trap 'rm -f "$$log" "$$log.compared"' EXIT; \
 	rt ci | tee "$$log"; \
+	grep -q '^rt: ok' "$$log" || { echo 'test: rt ci has no line that begins with rt: ok' >&2; exit 1; }; \
+	! grep -qE '^rt: ok.*[1-9][0-9]* bad' "$$log" || { echo 'test: must-fail edits are bad, as rt: ok says' >&2; exit 1; }; \
 	$(MAKE) --no-print-directory compare > "$$log.compared" 2>&1 & compared=$$!; \
 	$(MAKE) --no-print-directory hosts; \
 	wait $$compared || { cat "$$log.compared"; exit 1; }; \
@@ -78,7 +88,7 @@ needs:
 	@tests/needs.sh
 
 format:
-	@rt fmt --check
+	@tests/format.sh
 
 contracts:
 	@tests/contracts.sh

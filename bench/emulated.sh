@@ -2,7 +2,7 @@
 # Instructions a line of the port on any processor, counted by the toolchain's emulator, which runs one instruction at a time and logs each. The
 # difference of two files of unlike length leaves out what isn't reading. See docs/SPEED.md.
 #
-# BENCH_READ      the port's static library; otherwise `rt staticlib bench_read` makes it
+# BENCH_READ      the port's static library; otherwise make builds it, which proves it first
 # RUSTC CC        a compiler for this machine, and a C compiler for x86-64; otherwise those of tests/have.sh
 set -eu
 cd "$(dirname "${BASH_SOURCE[0]}")/.."
@@ -13,8 +13,8 @@ if why=$(missing c); then echo "emulated.sh: $why" >&2; exit 2; fi
 made=target/bench
 mkdir -p $made
 if [ -z "${BENCH_READ:-}" ]; then
-    rt staticlib bench_read > $made/staticlib.log 2>&1 || { cat $made/staticlib.log >&2; exit 1; }
-    BENCH_READ=target/staticlib/libbench_read.a
+    BENCH_READ=crates/bench_read/out/libbench_read.a
+    make --no-print-directory $BENCH_READ
 fi
 "${RUSTC:-rustc}" --edition 2021 -C opt-level=3 -o $made/lines bench/src/lines.rs
 $CC -std=c11 -Wall -Wextra -O2 -o $made/port bench/port.c "$BENCH_READ"

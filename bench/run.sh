@@ -5,8 +5,8 @@
 #   run.sh --count             instructions a line of each side on 20,000 lines, counted by valgrind
 #
 # PDBTBX_SRC      the folder with src/read/pdb/lexer.rs; otherwise ../shared/docs/src beside the repository
-# BENCH_READ      the port's static library; otherwise `rt staticlib bench_read` makes it
-# SALTIGHEDDA     the library that hosts link; otherwise `rt staticlib saltighedda` makes it
+# BENCH_READ      the port's static library; otherwise make builds it, which proves it first
+# SALTIGHEDDA     the library that hosts link; otherwise make builds it, which proves it first
 # RUSTC CC CXX    the compilers; otherwise rustc, cc and c++
 set -eu
 [ "$(uname -m)" = x86_64 ] || { echo "run.sh: the port is compiled for x86-64; a time under an emulator says nothing" >&2; exit 2; }
@@ -31,18 +31,12 @@ PDBTBX_SRC=$(cd "$source" && pwd)
 export PDBTBX_SRC
 
 mkdir -p "$made"
-library() {
-    (cd "$repository" && rt staticlib "$1") >"$made/staticlib.log" 2>&1 || {
-        cat "$made/staticlib.log" >&2
-        exit 1
-    }
-}
 if [ -z "${BENCH_READ:-}" ]; then
-    library bench_read
-    BENCH_READ=$repository/target/staticlib/libbench_read.a
+    make --no-print-directory -C "$repository" crates/bench_read/out/libbench_read.a
+    BENCH_READ=$repository/crates/bench_read/out/libbench_read.a
 fi
 if [ -z "${SALTIGHEDDA:-}" ]; then
-    library saltighedda
+    make --no-print-directory -C "$repository" target/staticlib/libsaltighedda.a
     SALTIGHEDDA=$repository/target/staticlib/libsaltighedda.a
 fi
 

@@ -1,6 +1,6 @@
 #!/bin/bash
 # A million lines compared with the Rust, and a hundred thousand records that are written, where rustc and the Rust's files are there. Wants
-# target/bin/serve. See README.md.
+# crates/serve/out/serve. See README.md.
 set -eu
 cd "$(dirname "${BASH_SOURCE[0]}")/.."
 . tests/have.sh
@@ -14,7 +14,7 @@ trap 'rm -f "$log"' EXIT
 
 # The words before the others say which run.
 compare() {
-    target/differential/differential "$@" --short --file examples/zinc.pdb -- tools/run target/bin/serve > "$log" || {
+    target/differential/differential "$@" --short --file examples/zinc.pdb -- tools/run crates/serve/out/serve > "$log" || {
         cat "$log"
         exit 1
     }

@@ -28,18 +28,19 @@ lines() {
 }
 
 # What the listed definitions use and isn't listed, nor spared: a name stands for a definition of its own file, or for one of another crate's specs that
-# the file's imports name. The rows are a file with names, or with none for all of it; then come the words that are spared.
+# the file's imports name; the words of std are the language's own. The rows are a file with names, or with none for all of it; then come the words that are spared.
 lacking() {
     awk -v rows="$1" -v spared="$2" '
-        function open(name) { gsub(/^_|_$/, "", name); return name }
+        function open(name) { gsub(/^◌|◌$/, "", name); return name }
         FILENAME == rows { for (i = 2; i <= NF; i++) listed["crates/" $1 " " $i]; if (NF == 1) whole["crates/" $1]; next }
         FILENAME == spared { known[$1]; next }
         /^[ \t]*$/ { name = ""; next }
         /^[ \t]*--/ || /^infix / { next }
         /^use / {
-            if (!match($0, /^use Rattle·[a-z_]+(·specs\.specs|\.specs)\.[A-Z][A-Za-z]*\.\{/)) next
-            split($0, path, /·specs\.specs\.|\.specs\.|\.\{|\}/)
-            sub(/^use Rattle·/, "", path[1])
+            if (!match($0, /^use Rattle\.[a-z_]+\.specs\.[A-Z][A-Za-z]*\.\{/)) next
+            split($0, path, /\.specs\.|\.\{|\}/)
+            sub(/^use Rattle\./, "", path[1])
+            if (path[1] == "std") next
             count = split(path[3], import, /, */)
             for (i = 1; i <= count; i++) {
                 words = split(import[i], word, " ")

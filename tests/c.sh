@@ -3,8 +3,8 @@
 # columns that don't matter and those that do, what is written beside what printf writes, what is moved beside C's own doubles, how many decimals
 # were read beside how many were drawn, exponents beside whole numbers and strtod, files held against their MASTER lines beside a count of C's
 # own, lines mended beside a mending of C's own, the example hosts on the sample file and on made ones, and an installation as a C programmer uses
-# it. All is compiled for x86-64, as the library is. Wants target/staticlib/libsaltighedda.a, target/bin/pdblist, target/bin/pdbmaster,
-# target/bin/pdbmend and target/bin/pdbreport. Prints a line for each thing that holds; the status is 1 if one doesn't.
+# it. All is compiled for x86-64, as the library is. Wants target/staticlib/libsaltighedda.a and, built as make builds them, the programs pdblist,
+# pdbmaster, pdbmend and pdbreport. Prints a line for each thing that holds; the status is 1 if one doesn't.
 set -eu
 cd "$(dirname "${BASH_SOURCE[0]}")/.."
 . tests/have.sh

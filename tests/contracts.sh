@@ -33,16 +33,15 @@ is_public() {
 
 # theorem FILE PATH ANSWER: whether the file states it of the function's own contract, which the checker makes of its clauses.
 theorem() {
-    local file=$1 contract="its.$2.ended (λ M. its.$2.clauses)" said
-    case $3 in '&'*) said="OneBy $contract (λ κs. now)" ;; *) said="One $contract" ;; esac
-    grep -E '^pub [a-z0-9-]+-one : ' "$file" | sed 's/^[^:]* : //' | grep -qxF "$said"
+    local file=$1 contract="its.$2.ended (λ M 𝓤. its.$2.clauses)" said
+    case $3 in '&'*) said="OneBy $contract (λ κs. (λ x. x.now))" ;; *) said="One $contract" ;; esac
+    grep -E '^pub [a-z0-9_-]+[-_]one : ' "$file" | sed 's/^[^:]* : //' | grep -qxF "$said"
 }
 
 # What the words of a statement mean: the definitions of crate `single`, and the crate's own modules.
 means() {
     local file=$1 crate=$2
-    grep -qx "use Rattle·$crate·proofs.proofs as its" "$file" && grep -qxE 'use Rattle·single\.specs\.One\.\{One, OneBy\}|use Rattle·single\.specs\.One\.\{One\}' "$file" &&
-        { ! grep -q 'OneBy' "$file" || grep -qx 'use denote.Ref.{now}' "$file"; }
+    grep -qx "use Rattle\.$crate\.specs\.contracts as its" "$file" && grep -qxE 'use Rattle\.single\.specs\.One\.\{One, OneBy\}|use Rattle\.single\.specs\.One\.\{One\}' "$file"
 }
 
 wrong=0

@@ -1,14 +1,14 @@
 #!/bin/bash
 # The program pdblist from a shell: input from a file, a pipe in pieces and a terminal, of many bytes and in long lines, and what it says when it
 # can't read or write.
-# Wants target/bin/pdblist. Prints a line for each thing that holds; the status is 1 if one doesn't.
+# Wants crates/pdblist/out/pdblist. Prints a line for each thing that holds; the status is 1 if one doesn't.
 set -eu
 cd "$(dirname "${BASH_SOURCE[0]}")/.."
 . tests/have.sh
 tested=pdblist
 . tests/program.sh
 pdblist() {
-    tools/run target/bin/pdblist
+    tools/run crates/pdblist/out/pdblist
 }
 
 pdblist < $input > "$folder/printed"
@@ -33,7 +33,7 @@ same "lines about 1,024 bytes long" "$folder/wanted"
 
 # What is finished is printed before more is waited for, and what isn't is held. While 20 MB follow, no memory is added to what was there.
 mkfifo "$folder/pipe"
-tools/run target/bin/pdblist < "$folder/pipe" > "$folder/printed" & program=$!
+tools/run crates/pdblist/out/pdblist < "$folder/pipe" > "$folder/printed" & program=$!
 memory() {
     awk '/^VmRSS:/ { print $2 }' "/proc/$program/status"
 }
@@ -68,7 +68,7 @@ if why=$(missing script); then
     echo "pdblist: left out: $why"
 else
     # A terminal shows what is typed, so only the rows are looked at. Byte 4 at the start of a line ends the input.
-    { sleep 0.3; printf 'MODEL        2\n'; sleep 0.3; printf '\004'; } | script -qec "tools/run target/bin/pdblist" "$folder/typescript" > "$folder/terminal"
+    { sleep 0.3; printf 'MODEL        2\n'; sleep 0.3; printf '\004'; } | script -qec "tools/run crates/pdblist/out/pdblist" "$folder/typescript" > "$folder/terminal"
     tr -d '\r' < "$folder/terminal" | grep -a '^record=\|^line=\|^f6=\|^faults=' > "$folder/printed" || true
     printf '%s\n' record=MODEL line=1 f6=2 faults=0 > "$folder/wanted"
     same "a terminal" "$folder/wanted"

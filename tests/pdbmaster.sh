@@ -1,7 +1,7 @@
 #!/bin/bash
 # The program pdbmaster from a shell: a file that adds up, one with lines missing, one with more than MASTER says, every refusal, drawn files beside a
 # count of tests/verdict.awk's own, whole and cut in parts, files far larger than what is held of them, and what it says when it can't read or
-# write. Wants target/bin/pdbmaster. Prints a line for each thing that holds; the status is 1 if one doesn't.
+# write. Wants crates/pdbmaster/out/pdbmaster. Prints a line for each thing that holds; the status is 1 if one doesn't.
 #
 #     pdbmaster.sh [FILES [SEED]]
 #
@@ -11,7 +11,7 @@ cd "$(dirname "${BASH_SOURCE[0]}")/.."
 tested=pdbmaster
 . tests/program.sh
 pdbmaster() {
-    tools/run target/bin/pdbmaster
+    tools/run crates/pdbmaster/out/pdbmaster
 }
 
 # Wants a last row.
@@ -106,7 +106,7 @@ same "a short file, cut at every place" "$folder/wanted"
 } > "$folder/large"
 verdict "$folder/large"
 mkfifo "$folder/pipe"
-tools/run target/bin/pdbmaster < "$folder/pipe" > "$folder/printed" & program=$!
+tools/run crates/pdbmaster/out/pdbmaster < "$folder/pipe" > "$folder/printed" & program=$!
 memory() {
     awk '/^VmRSS:/ { print $2 }' "/proc/$program/status"
 }

@@ -1,14 +1,14 @@
 #!/bin/bash
 # The program pdbmend from a shell: a file, a pipe in pieces, line ends, lines about 1,024 bytes long, many lines beside an awk that goes by document
 # 02, a file mended twice, the zinc, and what it says when it can't read or write.
-# Wants target/bin/pdbmend. Prints a line for each thing that holds; the status is 1 if one doesn't.
+# Wants crates/pdbmend/out/pdbmend. Prints a line for each thing that holds; the status is 1 if one doesn't.
 set -eu
 cd "$(dirname "${BASH_SOURCE[0]}")/.."
 folder=$(mktemp -d)
 trap 'rm -rf "$folder"' EXIT
 export LC_ALL=C
 pdbmend() {
-    tools/run target/bin/pdbmend 2> "$folder/rows"
+    tools/run crates/pdbmend/out/pdbmend 2> "$folder/rows"
 }
 input=crates/pdbmend/stdin
 output=crates/pdbmend/stdout

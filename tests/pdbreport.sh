@@ -1,14 +1,14 @@
 #!/bin/bash
 # The program pdbreport from a shell: a file, a pipe in pieces, a file cut at every byte of its last two lines, one shifted by a column, tabs, a byte
 # order mark, CR line ends alone, other formats, no input, a file far larger than what is held of it, and what it says when it can't read or write.
-# Wants target/bin/pdbreport. Prints a line for each thing that holds; the status is 1 if one doesn't.
+# Wants crates/pdbreport/out/pdbreport. Prints a line for each thing that holds; the status is 1 if one doesn't.
 set -eu
 cd "$(dirname "${BASH_SOURCE[0]}")/.."
 tested=pdbreport
 . tests/program.sh
 export LC_ALL=C
 pdbreport() {
-    tools/run target/bin/pdbreport
+    tools/run crates/pdbreport/out/pdbreport
 }
 
 # The same for what stands on standard input here.
@@ -188,7 +188,7 @@ same "a short file, cut at every place" "$folder/wanted"
 # 24 MB, of which no memory is added to what was there.
 { yes "$(head -n 1 "$folder/whole")" | head -n 300000 || true; echo END; } > "$folder/large"
 mkfifo "$folder/pipe"
-tools/run target/bin/pdbreport < "$folder/pipe" > "$folder/printed" & program=$!
+tools/run crates/pdbreport/out/pdbreport < "$folder/pipe" > "$folder/printed" & program=$!
 memory() {
     awk '/^VmRSS:/ { print $2 }' "/proc/$program/status"
 }

@@ -15,7 +15,7 @@ same() {
     echo "$tested: $1"
 }
 
-# Wants nothing printed, and a reason on standard error. The status can't tell: the language gives a program none.
+# Wants nothing printed, and a reason on standard error. The status can't tell: it is 0.
 complains() {
     if [ -s "$folder/printed" ] || [ ! -s "$folder/why" ]; then
         echo "$tested: $1: no reason was given" >&2

@@ -1,8 +1,8 @@
 // What C hosts call: the listing of a line over numbers and byte slices alone, in `ask` which kind a line is, in `read` its fields and faults as
 // words, in `places` how many decimals were written, in `write` the lines that are written, in `transform` the positions that are moved, in
 // `check` a file that is held against its MASTER line, and in `mending` a line that is mended. In C a slice is a pointer and a length, as
-// include/saltighedda.h has it. An archive has the entries of the crate that it is made of and of no other, so that they stand here, and each is a
-// call of the crate that does the work.
+// include/saltighedda.h has it. Each is a call of the crate that does the work. An archive has the entries of the crate that it is made of and of no
+// other, and a crate is a library or an archive: `saltighedda_c` is the archive, and calls each of these.
 // Three of the calls tell of a refusal; they take the lent bytes of the first, and only their number counts.
 #![tactic(auto)]
 

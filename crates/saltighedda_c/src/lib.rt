@@ -1,0 +1,70 @@
+// What C hosts link: each function of `saltighedda` once more, under the same name, with the same parameters and the same clauses. An archive has the
+// entries of the crate that it is made of and of no other, and a crate is a library or an archive: Rattle code calls `saltighedda`, C this one. In C a
+// slice is a pointer and a length, as include/saltighedda.h has it.
+// Three of the calls tell of a refusal; they take the lent bytes of the first, and only their number counts.
+#![tactic(auto)]
+
+ghost use Rattle.packing.specs.Options.{input_of};
+ghost use Rattle.answers.specs.Face as specs;
+
+pub mod ask;
+pub mod check;
+pub mod mending;
+pub mod places;
+pub mod read;
+pub mod transform;
+pub mod write;
+
+// How many bytes of the line's listing were written at the front of the lent ones; 0 says that it was refused, and that
+// the lent bytes are as they were.
+#[unsafe(no_mangle)]
+pub extern "C" fn saltighedda_list(
+    line: &[u8],
+    number: usize,
+    options: u32,
+    remarks: &[u8],
+    out: &mut [u8],
+) -> usize
+    ensures { specs.WrittenInto out.old (input_of line.now number options remarks.now) result out.new }
+{
+    saltighedda::saltighedda_list(line, number, options, remarks, out)
+}
+
+#[unsafe(no_mangle)]
+pub extern "C" fn saltighedda_list_refusal(
+    line: &[u8],
+    number: usize,
+    options: u32,
+    remarks: &[u8],
+    out: &mut [u8],
+) -> usize
+    ensures { specs.Told specs.number_of out.old (input_of line.now number options remarks.now) result out.new }
+{
+    saltighedda::saltighedda_list_refusal(line, number, options, remarks, out)
+}
+
+#[unsafe(no_mangle)]
+pub extern "C" fn saltighedda_list_place(
+    line: &[u8],
+    number: usize,
+    options: u32,
+    remarks: &[u8],
+    out: &mut [u8],
+) -> usize
+    ensures { specs.Told specs.place_of out.old (input_of line.now number options remarks.now) result out.new }
+{
+    saltighedda::saltighedda_list_place(line, number, options, remarks, out)
+}
+
+#[unsafe(no_mangle)]
+pub extern "C" fn saltighedda_list_length(
+    line: &[u8],
+    number: usize,
+    options: u32,
+    remarks: &[u8],
+    out: &mut [u8],
+) -> usize
+    ensures { specs.Told specs.length_of out.old (input_of line.now number options remarks.now) result out.new }
+{
+    saltighedda::saltighedda_list_length(line, number, options, remarks, out)
+}
