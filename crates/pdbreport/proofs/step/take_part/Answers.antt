@@ -1,6 +1,5 @@
 -- `pdbreport::step::take_part` meets its contract. The loop's invariant: what is known is what the part up to the offset leaves.
 -- Assumes nothing.
-use Prim.Native.Nat.{◌-◌}
 use mathlib.Core.Path.{refl}
 use native.Mathlib.Omega.{arith}
 use Rattle.pdbreport.specs.Fed.{fed_all}
