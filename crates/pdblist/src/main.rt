@@ -3,6 +3,6 @@
 
 use stream::list_input;
 
-fn main() {
-    list_input();
+fn main(rt: HostRuntime) {
+    list_input(&rt);
 }

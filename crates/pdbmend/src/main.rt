@@ -7,27 +7,33 @@ mod turn;
 
 use crate::held::Held;
 use crate::output::{Went, write_last, write_part};
-use libc::STDIN_FILENO;
 use stream::input::{Got, read_some};
+use stream::reason::fail;
 
 // More reads than any run makes: a proved loop has to end.
 const MOST_READS: usize = 140737488355328;
 
-fn main() {
+fn main(rt: HostRuntime) {
+    let mut source = rt.stdin();
+    let output = rt.stdout();
+    let errors = rt.stderr();
     let mut kept = [0u8; 1026];
     let mut held = Held::none(1);
-    let mut space = io::large_buffer();
+    let mut space = [0u8; 65536];
     let mut turns = MOST_READS;
     while 0 < turns {
-        let Got::Bytes(n) = read_some(STDIN_FILENO, &mut space) else {
-            os::fail(b"pdbmend: standard input");
-            return;
+        let n = match read_some(&mut source, &mut space) {
+            Got::Bytes(n) => n,
+            Got::Failed(why) => {
+                fail(&errors, "pdbmend: standard input", why);
+                return;
+            }
         };
         if n == 0 {
-            write_last(held, &kept);
+            write_last(&output, &errors, held, &kept);
             return;
         }
-        let Went::On(next) = write_part(held, &mut kept, &space[..n]) else {
+        let Went::On(next) = write_part(&output, &errors, held, &mut kept, &space[..n]) else {
             return;
         };
         held = next;

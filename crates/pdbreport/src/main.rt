@@ -12,59 +12,74 @@ use crate::step::{Took, take_part};
 use crate::tell::{hand_over, tell_held};
 use carry::held::Held;
 use ledger::summary::put_summary;
-use libc::STDIN_FILENO;
 use stream::input::{Got, read_some};
+use stream::reason::fail;
 
 // More reads than any run makes: a proved loop has to end, and a line has to have a number.
 const MOST_READS: usize = 140737488355328;
 
 // Prints the summary. What is known is there for the condition alone.
-fn print_summary(held: Held, kept: &[u8; 1024], ledger: &[u64; 69], text: &[u8])
+fn print_summary(
+    rt: &(impl Print + Eprint),
+    held: Held,
+    kept: &[u8; 1024],
+    ledger: &[u64; 69],
+    text: &[u8],
+)
     requires { specs.Sums (specs.progress ledger.now held kept.now) text.now }
 {
-    hand_over(text);
+    hand_over(rt, text);
 }
 
 // Tells of the line that the end of the input ends, if a byte of it came.
-fn tell_last(held: Held, kept: &[u8; 1024], ledger: &mut [u64; 69]) -> bool
+fn tell_last(
+    rt: &(impl Print + Eprint),
+    held: Held,
+    kept: &[u8; 1024],
+    ledger: &mut [u64; 69],
+) -> bool
     requires { specs.Came (specs.progress ledger.old held kept.now) 0 }
     ensures { ledger.new ≡ specs.last_ledger (specs.progress ledger.old held kept.now) }
 {
     if held.total == 0 {
         return true;
     }
-    tell_held(held, kept, ledger, held.total)
+    tell_held(rt, held, kept, ledger, held.total)
 }
 
 // What there is to print at the end of the input.
-fn finish(held: Held, kept: &[u8; 1024], ledger: &[u64; 69])
+fn finish(rt: &(impl Print + Eprint), held: Held, kept: &[u8; 1024], ledger: &[u64; 69])
     requires { specs.Came (specs.progress ledger.now held kept.now) 0 }
 {
     let mut all = *ledger;
-    if !tell_last(held, kept, &mut all) {
+    if !tell_last(rt, held, kept, &mut all) {
         return;
     }
-    let mut out = io::buffer();
+    let mut out = [0u8; 4096];
     let n = put_summary(&mut out, 0, &all);
-    print_summary(held, kept, ledger, &out[..n]);
+    print_summary(rt, held, kept, ledger, &out[..n]);
 }
 
-fn main() {
+fn main(rt: HostRuntime) {
+    let mut source = rt.stdin();
     let mut kept = [0u8; 1024];
     let mut ledger = [0u64; 69];
     let mut held = Held::none(1);
-    let mut space = io::large_buffer();
+    let mut space = [0u8; 65536];
     let mut turns = MOST_READS;
     while 0 < turns {
-        let Got::Bytes(n) = read_some(STDIN_FILENO, &mut space) else {
-            os::fail(b"pdbreport: standard input");
-            return;
+        let n = match read_some(&mut source, &mut space) {
+            Got::Bytes(n) => n,
+            Got::Failed(why) => {
+                fail(&rt, "pdbreport: standard input", why);
+                return;
+            }
         };
         if n == 0 {
-            finish(held, &kept, &ledger);
+            finish(&rt, held, &kept, &ledger);
             return;
         }
-        let Took::All(next) = take_part(held, &mut kept, &mut ledger, &space[..n]) else {
+        let Took::All(next) = take_part(&rt, held, &mut kept, &mut ledger, &space[..n]) else {
             return;
         };
         held = next;

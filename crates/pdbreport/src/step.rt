@@ -16,6 +16,7 @@ pub enum Went {
 
 // Takes bytes from an offset on, up to the first LF and with it, or all.
 pub fn step(
+    rt: &(impl Print + Eprint),
     held: Held,
     kept: &mut [u8; 1024],
     ledger: &mut [u64; 69],
@@ -31,7 +32,7 @@ pub fn step(
     if part.len() <= lf {
         return Went::On { held: h, at: lf };
     }
-    if !tell_held(h, kept, ledger, h.ended_size()) {
+    if !tell_held(rt, h, kept, ledger, h.ended_size()) {
         return Went::Failed;
     }
     Went::On {
@@ -48,7 +49,13 @@ pub enum Took {
 }
 
 // Takes all of a part.
-pub fn take_part(held: Held, kept: &mut [u8; 1024], ledger: &mut [u64; 69], part: &[u8]) -> Took
+pub fn take_part(
+    rt: &(impl Print + Eprint),
+    held: Held,
+    kept: &mut [u8; 1024],
+    ledger: &mut [u64; 69],
+    part: &[u8],
+) -> Took
     requires { specs.Came (specs.progress ledger.old held kept.old) (length part.now) }
     ensures { specs.TakesAll (specs.progress ledger.old held kept.old) part.now ledger.new kept.new result }
 {
@@ -58,7 +65,7 @@ pub fn take_part(held: Held, kept: &mut [u8; 1024], ledger: &mut [u64; 69], part
         let Went::On {
             held: next,
             at: behind,
-        } = step(h, kept, ledger, part, at)
+        } = step(rt, h, kept, ledger, part, at)
         else {
             return Took::Failed;
         };

@@ -9,27 +9,37 @@ use ledger::enter;
 use lexer::{excess, lex_line};
 use lexitem::answer::{Answer, Outcome, Refusal};
 use lexitem::fault::LineFaults;
-use libc::STDOUT_FILENO;
 use line::options::Options;
+use stream::reason::fail;
 
 // Writes a text, or says why it can't.
-pub fn hand_over(text: &[u8]) -> bool {
-    let is_written = io::write_all(STDOUT_FILENO, text);
-    if !is_written {
-        os::fail(b"pdbreport: standard output");
+pub fn hand_over(rt: &(impl Print + Eprint), text: &[u8]) -> bool {
+    match rt.write_all(text) {
+        Ok(()) => true,
+        Err(why) => {
+            fail(rt, "pdbreport: standard output", why);
+            false
+        }
     }
-    is_written
 }
 
 // Prints what is due for the line that is held, if it has so many bytes. What is known is there for the condition alone.
-fn print_account(held: Held, kept: &[u8], ledger: &[u64; 69], size: usize, text: &[u8]) -> bool
+fn print_account(
+    rt: &(impl Print + Eprint),
+    held: Held,
+    kept: &[u8],
+    ledger: &[u64; 69],
+    size: usize,
+    text: &[u8],
+) -> bool
     requires { specs.Due (specs.progress ledger.now held kept.now) size text.now }
 {
-    hand_over(text)
+    hand_over(rt, text)
 }
 
 // Tells of a line with its answer.
 fn tell(
+    rt: &(impl Print + Eprint),
     held: Held,
     kept: &[u8],
     ledger: &mut [u64; 69],
@@ -40,15 +50,21 @@ fn tell(
     requires { specs.Next (specs.progress ledger.old held kept.now) size line.now answer }
     ensures { ledger.new ≡ specs.held_ledger ledger.old held.number size kept.now }
 {
-    let mut out = io::buffer();
+    let mut out = [0u8; 4096];
     let n = put_account(&mut out, 0, line, answer);
-    let is_written = print_account(held, kept, ledger, size, &out[..n]);
+    let is_written = print_account(rt, held, kept, ledger, size, &out[..n]);
     enter(ledger, line, answer);
     is_written
 }
 
 // Of one that is refused by its length.
-fn tell_over(held: Held, kept: &[u8], ledger: &mut [u64; 69], size: usize) -> bool
+fn tell_over(
+    rt: &(impl Print + Eprint),
+    held: Held,
+    kept: &[u8],
+    ledger: &mut [u64; 69],
+    size: usize,
+) -> bool
     requires { (specs.Came (specs.progress ledger.old held kept.now) 0) × (specs.Ends held size) × (1024 < size) }
     ensures { ledger.new ≡ specs.held_ledger ledger.old held.number size kept.now }
 {
@@ -58,26 +74,38 @@ fn tell_over(held: Held, kept: &[u8], ledger: &mut [u64; 69], size: usize) -> bo
         outcome: Outcome::Refused(why),
         faults: LineFaults::none(),
     };
-    tell(held, kept, ledger, size, kept, answer)
+    tell(rt, held, kept, ledger, size, kept, answer)
 }
 
 // Of one that is kept whole.
-fn tell_front(held: Held, kept: &[u8], ledger: &mut [u64; 69], size: usize) -> bool
+fn tell_front(
+    rt: &(impl Print + Eprint),
+    held: Held,
+    kept: &[u8],
+    ledger: &mut [u64; 69],
+    size: usize,
+) -> bool
     requires { (specs.Came (specs.progress ledger.old held kept.now) 0) × (specs.Ends held size) × (size ≤ 1024) × (size ≤ length kept.now) }
     ensures { ledger.new ≡ specs.held_ledger ledger.old held.number size kept.now }
 {
     let remarks = [1u8; 1000];
     let answer = lex_line(&kept[..size], held.number, Options::PLAIN, &remarks);
-    tell(held, kept, ledger, size, &kept[..size], answer)
+    tell(rt, held, kept, ledger, size, &kept[..size], answer)
 }
 
 // Tells of the line that is held, if it has so many bytes.
-pub fn tell_held(held: Held, kept: &[u8; 1024], ledger: &mut [u64; 69], size: usize) -> bool
+pub fn tell_held(
+    rt: &(impl Print + Eprint),
+    held: Held,
+    kept: &[u8; 1024],
+    ledger: &mut [u64; 69],
+    size: usize,
+) -> bool
     requires { (specs.Came (specs.progress ledger.old held kept.now) 0) × (specs.Ends held size) }
     ensures { ledger.new ≡ specs.held_ledger ledger.old held.number size kept.now }
 {
     if MOST_KEPT < size {
-        return tell_over(held, kept, ledger, size);
+        return tell_over(rt, held, kept, ledger, size);
     }
-    tell_front(held, kept, ledger, size)
+    tell_front(rt, held, kept, ledger, size)
 }

@@ -3,21 +3,24 @@
 // were made. The last file is empty.
 #![tactic(auto)]
 
+use std::fs::File;
+use std::rt::Files;
 use stream::list_from;
+use stream::reason::fail;
 
-fn replay(path: &[u8]) {
-    let fd = os::open_read(path);
-    if fd < 0 {
-        os::fail(path);
-        return;
+fn replay(rt: &(impl Files + Print + Eprint), path: &str) {
+    match File::open(rt, path) {
+        Ok(file) => {
+            let mut source = file;
+            list_from(rt, &mut source);
+        }
+        Err(why) => fail(rt, path, why),
     }
-    list_from(fd);
-    libc::close(fd);
 }
 
-fn main() {
-    replay(b"sample-1");
-    replay(b"sample-2");
-    replay(b"sample-3");
-    replay(b"nothing");
+fn main(rt: HostRuntime) {
+    replay(&rt, "sample-1");
+    replay(&rt, "sample-2");
+    replay(&rt, "sample-3");
+    replay(&rt, "nothing");
 }

@@ -6,4 +6,4 @@ use Rattle.stream.specs.declared.input.Got.TheVariants.{Bytes, Failed}
 -- what was read has room
 abbrev pub Within : ℕ → Got → Type 0
 Within room (Bytes n) = n ≤ room
-Within room Failed = Unit {0}
+Within room (Failed _) = Unit {0}

@@ -4,39 +4,45 @@
 
 use crate::input::{Got, read_some};
 use crate::output::{Went, print_last, print_part};
+use crate::reason::fail;
 use carry::held::Held;
-use libc::STDIN_FILENO;
+use std::io::Read;
 
 pub mod input;
 mod output;
+pub mod reason;
 
 // More reads than any run makes: a proved loop has to end, and the numbers of the lines have to be told apart.
 const MOST_READS: usize = 140737488355328;
 
 // Lists standard input.
-pub fn list_input() {
-    list_from(STDIN_FILENO);
+pub fn list_input(rt: &(impl Input + Print + Eprint)) {
+    let mut source = rt.reader();
+    list_from(rt, &mut source);
 }
 
 // Lists what a file has to its end, or says on standard error why it can't.
-pub fn list_from(fd: i32) {
+pub fn list_from<R: Print + Eprint, S: Read>(rt: &R, source: &mut S) {
     let mut kept = [0u8; 1024];
     let mut held = Held::none(1);
-    let mut space = io::large_buffer();
+    let mut space = [0u8; 65536];
     let mut turns = MOST_READS;
     while 0 < turns {
-        let Got::Bytes(n) = read_some(fd, &mut space) else {
-            os::fail(b"pdblist: standard input");
-            return;
+        let n = match read_some(source, &mut space) {
+            Got::Bytes(n) => n,
+            Got::Failed(why) => {
+                fail(rt, "pdblist: standard input", why);
+                return;
+            }
         };
         if n == 0 {
-            print_last(held, &kept);
+            print_last(rt, held, &kept);
             return;
         }
         let Went::On {
             held: next,
             done: _,
-        } = print_part(held, &mut kept, &space[..n])
+        } = print_part(rt, held, &mut kept, &space[..n])
         else {
             return;
         };

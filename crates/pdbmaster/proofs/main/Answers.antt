@@ -3,12 +3,14 @@
 -- Assumes nothing.
 use mathlib.Core.Path.{sym, ◌∙◌}
 use native.Mathlib.Omega.{arith}
+use Rattle.std.specs.Prelude.{ℕ}
+use Rattle.std.proofs.lemmas.List.{length-replicate}
 use lib.Seq.{length-take-le}
 use Rattle.pdbmaster.proofs.Laws.Came.{came-first, came-next, came-end}
 use Rattle.pdbmaster.proofs.main.Goals as goal
 
 pub loop-turns-init : goal.loop-turns-init
-loop-turns-init c = (sym c.large_buffer-space.ensures, rw c.none-held.ensures (came-first 140737488355328 (omega arith)))
+loop-turns-init c = (length-replicate {A = ℕ} 65536 0, rw c.none-held.ensures (came-first 140737488355328 (omega arith)))
 
 pub slice_bounds-read_some-end : goal.slice_bounds-read_some-end
 slice_bounds-read_some-end c = sym c.loop-turns.invariant.0
@@ -20,7 +22,7 @@ pub slice_bounds-space-end : goal.slice_bounds-space-end
 slice_bounds-space-end c =
     let turn = c.loop-turns in
     let read = c.read_some in
-    let size = read.auto.1.0 ∙ turn.invariant.0 in
+    let size = read.auto.space ∙ turn.invariant.0 in
     let few = rw c.in-Bytes.is at read.ensures in
     omega arith
 
@@ -28,7 +30,7 @@ pub slice_bounds-watch_part-end : goal.slice_bounds-watch_part-end
 slice_bounds-watch_part-end c =
     let turn = c.loop-turns in
     let read = c.read_some in
-    let size = read.auto.1.0 ∙ turn.invariant.0 in
+    let size = read.auto.space ∙ turn.invariant.0 in
     let few = rw c.in-Bytes.is at read.ensures in
     sym (length-take-le _ _ (omega arith))
 
@@ -36,5 +38,5 @@ pub loop-turns-preserved : goal.loop-turns-preserved
 loop-turns-preserved c =
     let turn = c.loop-turns in
     let read = c.read_some in
-    let size = read.auto.1.0 ∙ turn.invariant.0 in
-    (size, came-next _ read.new.1.0 _ c.in-Bytes.n _ _ turn.invariant.1 c.loop-turns-test.true size c.watch_part-watched.ensures)
+    let size = read.auto.space ∙ turn.invariant.0 in
+    (size, came-next _ read.new.space _ c.in-Bytes.n _ _ turn.invariant.1 c.loop-turns-test.true size c.watch_part-watched.ensures)

@@ -1,6 +1,5 @@
 -- `pdbmend::held::absorb` meets its contract.
 -- Assumes nothing.
-use Prim.Native.Nat.{◌-◌}
 use mathlib.Core.Path.{refl}
 use native.Mathlib.Omega.{arith}
 use Rattle.pdbmend.proofs.Laws.Held.{absorb_here, absorb_full, absorb_next, absorb_none}

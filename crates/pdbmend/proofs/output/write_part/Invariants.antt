@@ -6,7 +6,7 @@ use lib.ListN.{length}
 use Rattle.pdbmend.proofs.output.write_part.Given as goal
 
 abbrev pub invariant-loop-at : goal.invariant-loop-at
-invariant-loop-at l = (length l.out ≡ 4096) × (length l.rows ≡ 65536) × (l.h.n < 1026)
+invariant-loop-at g l = (length l.out ≡ 4096) × (length l.rows ≡ 65536) × (l.h.n < 1026)
 
 abbrev pub decreases-loop-at : goal.decreases-loop-at
-decreases-loop-at l = length l.part - l.at
+decreases-loop-at g l = length l.part - l.at

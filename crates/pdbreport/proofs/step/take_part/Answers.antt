@@ -1,6 +1,5 @@
 -- `pdbreport::step::take_part` meets its contract. The loop's invariant: what is known is what the part up to the offset leaves.
 -- Assumes nothing.
-use Prim.Native.Nat.{◌-◌}
 use mathlib.Core.Path.{refl}
 use native.Mathlib.Omega.{arith}
 use Rattle.pdbreport.specs.Fed.{fed_all}
@@ -9,24 +8,24 @@ use Rattle.pdbreport.proofs.step.take_part.Goals as goal
 
 pub loop-at-init : goal.loop-at-init
 unfolding fed_all
-loop-at-init c = (omega arith, refl)
+loop-at-init g c = (omega arith, refl)
 
 pub step-requires : goal.step-requires
-step-requires c =
+step-requires g c =
     let turn = c.loop-at in
     (loop_came _ _ _ _ turn.invariant.0 turn.invariant.1 c.requires, c.loop-at-test.true)
 
 pub loop-at-smaller : goal.loop-at-smaller
-loop-at-smaller c =
+loop-at-smaller g c =
     let took = rw c.in-On.is at c.step.ensures in
     let further = took.further in
     omega (arith, c.loop-at-test.true)
 
 pub loop-at-preserved : goal.loop-at-preserved
-loop-at-preserved c =
+loop-at-preserved g c =
     let turn = c.loop-at in
     let took = rw c.in-On.is at c.step.ensures in
     loop_next _ _ _ _ turn.invariant.0 turn.invariant.1 _ _ took
 
 pub returns : goal.returns
-returns c = loop_all _ _ _ _ c.loop-at.invariant.0 c.loop-at.invariant.1 c.loop-at-test.false
+returns g c = loop_all _ _ _ _ c.loop-at.invariant.0 c.loop-at.invariant.1 c.loop-at-test.false

@@ -2,24 +2,26 @@
 -- Assumes nothing.
 use mathlib.Core.Path.{sym}
 use native.Mathlib.Omega.{arith}
+use Rattle.std.specs.Prelude.{ℕ}
+use Rattle.std.proofs.lemmas.List.{length-replicate}
 use lib.Seq.{length-take-le}
 use Rattle.pdbreport.proofs.Laws.Came.{put-within, front-put, next-short, next-due, next-entered}
 use Rattle.pdbreport.proofs.tell.tell.Goals as goal
 
 pub slice_bounds-out-end : goal.slice_bounds-out-end
-slice_bounds-out-end c =
+slice_bounds-out-end g c =
     let short = next-short _ _ _ _ c.requires in
-    omega (arith, put-within _ _ _ _ c.put_account-n.ensures (sym c.buffer-out.ensures) short)
+    omega (arith, put-within _ _ _ _ c.put_account-n.ensures (length-replicate {A = ℕ} 4096 0) short)
 
 pub slice_bounds-print_account-end : goal.slice_bounds-print_account-end
-slice_bounds-print_account-end c =
+slice_bounds-print_account-end g c =
     let short = next-short _ _ _ _ c.requires in
-    sym (length-take-le _ _ (omega (arith, put-within _ _ _ _ c.put_account-n.ensures (sym c.buffer-out.ensures) short)))
+    sym (length-take-le _ _ (omega (arith, put-within _ _ _ _ c.put_account-n.ensures (length-replicate {A = ℕ} 4096 0) short)))
 
 pub print_account-is_written-requires : goal.print_account-is_written-requires
-print_account-is_written-requires c =
+print_account-is_written-requires g c =
     let next = c.requires in
-    next-due _ _ _ _ next _ (front-put _ _ _ _ c.put_account-n.ensures (sym c.buffer-out.ensures) (next-short _ _ _ _ next))
+    next-due _ _ _ _ next _ (front-put _ _ _ _ c.put_account-n.ensures (length-replicate {A = ℕ} 4096 0) (next-short _ _ _ _ next))
 
 pub returns : goal.returns
-returns c = next-entered _ _ _ _ c.requires _ c.enter.ensures
+returns g c = next-entered _ _ _ _ c.requires _ c.enter.ensures

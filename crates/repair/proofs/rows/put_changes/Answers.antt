@@ -1,6 +1,5 @@
 -- `repair::rows::put_changes` meets its contract.
 -- Assumes nothing.
-use Prim.Native.Nat.{◌-◌}
 use Rattle.repair.proofs.Laws.Rows.{rows_next, rows-done}
 use borrow.Author.Rules.{rules}
 use Rattle.repair.proofs.rows.put_changes.Goals as goal

@@ -6,7 +6,7 @@ use lib.ListN.{length}
 use Rattle.stream.proofs.input.read_some.Given as goal
 
 abbrev pub invariant-loop-turns : goal.invariant-loop-turns
-invariant-loop-turns l = length l.space ≡ length l.initial.space
+invariant-loop-turns g l = length l.space ≡ length l.initial.space
 
 abbrev pub decreases-loop-turns : goal.decreases-loop-turns
-decreases-loop-turns l = l.turns
+decreases-loop-turns g l = l.turns

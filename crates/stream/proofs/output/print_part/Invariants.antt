@@ -8,8 +8,8 @@ use Rattle.stream.proofs.Laws.Printed.{Due}
 use Rattle.stream.proofs.output.print_part.Given as goal
 
 abbrev pub invariant-loop-at : goal.invariant-loop-at
-invariant-loop-at l =
+invariant-loop-at g l =
     (length l.space ≡ 65536) × (l.before ≡ l.initial.kept) × Due (record { held = l.held; kept = l.before }) l.part (record { held = l.h; kept = l.kept }) l.at l.done
 
 abbrev pub decreases-loop-at : goal.decreases-loop-at
-decreases-loop-at l = length l.part - l.at
+decreases-loop-at g l = length l.part - l.at
