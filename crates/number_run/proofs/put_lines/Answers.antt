@@ -6,4 +6,4 @@ use native.Mathlib.Omega.{arith}
 use Rattle.number_run.proofs.put_lines.Goals as goal
 
 pub loop-i-preserved : goal.loop-i-preserved
-loop-i-preserved c = ⊎_elim (λ w. omega arith) (λ w. omega arith) c.if-input-i-eq10.branch
+loop-i-preserved g c = ⊎_elim (λ w. omega arith) (λ w. omega arith) c.if-input-i-eq10.branch

@@ -6,4 +6,4 @@ use borrow.Author.Rules.{rules}
 use Rattle.number_run.proofs.put_signed.Goals as goal
 
 pub slice_bounds-put-end : goal.slice_bounds-put-end
-slice_bounds-put-end c = sym (length-take-le _ _ (search rules))
+slice_bounds-put-end g c = sym (length-take-le _ _ (search rules))
