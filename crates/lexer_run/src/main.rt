@@ -4,20 +4,20 @@
 
 ghost use Rattle.std.specs.Prelude.{◌+◌, ◌≤◌};
 
-use libc::{STDIN_FILENO, STDOUT_FILENO};
+use intake::read_full;
 use report::fill::put_line;
 use walker::lines::{Step, line};
 use walker::step;
 
 // Prints a line's report, in a space where the longest has room.
-fn print_line(text: &[u8], number: usize) {
-    let mut space = io::buffer();
+fn print_line(rt: &impl Print, text: &[u8], number: usize) {
+    let mut space = [0u8; 4096];
     let n = put_line(text, number, &mut space);
-    io::write_all(STDOUT_FILENO, &space[..n]);
+    let _ = rt.write_all(&space[..n]);
 }
 
 // Every cut of a line, the first having the number, and the number behind the last one's.
-fn print_cuts(text: &[u8], number: usize) -> usize
+fn print_cuts(rt: &impl Print, text: &[u8], number: usize) -> usize
     requires { number ≤ 6000000 }
     ensures { result ≤ number + 82 }
 {
@@ -26,13 +26,13 @@ fn print_cuts(text: &[u8], number: usize) -> usize
         if text.len() < n {
             return number + n;
         }
-        print_line(&text[..n], number + n);
+        print_line(rt, &text[..n], number + n);
         n += 1;
     }
     number + n
 }
 
-fn print_lines(file: &[u8]) {
+fn print_lines(rt: &impl Print, file: &[u8]) {
     let mut at = 0;
     let mut number = 1;
     while at < file.len() {
@@ -47,20 +47,20 @@ fn print_lines(file: &[u8]) {
         }
         let text = line(file, start, end);
         if text.len() == 0 {
-            print_line(text, number);
+            print_line(rt, text, number);
             number += 1;
         } else if text[0] == b'/' {
-            number = print_cuts(&text[1..], number);
+            number = print_cuts(rt, &text[1..], number);
         } else {
-            print_line(text, number);
+            print_line(rt, text, number);
             number += 1;
         }
         at = next;
     }
 }
 
-fn main() {
-    let mut space = io::large_buffer();
-    let n = io::read_full(STDIN_FILENO, &mut space);
-    print_lines(&space[..n]);
+fn main(rt: HostRuntime) {
+    let mut space = [0u8; 65536];
+    let n = read_full(&mut rt.stdin(), &mut space);
+    print_lines(&rt, &space[..n]);
 }

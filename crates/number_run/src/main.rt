@@ -4,164 +4,165 @@
 // is the double of R as `cell` puts it into columns, with `!` behind it where it doesn't fit.
 #![tactic(auto)]
 
+use intake::read_full;
 use number::decimal::{Decimal, read_decimal};
 use number::trim::{read_text, trim_end};
 use number::whole::{Signed, Unsigned, read_signed, read_unsigned};
 use page::{bits_of, put_hex};
 use real::{Real, read_real, read_ten_thousandths};
 
-fn put(text: &[u8]) {
-    io::write_all(libc::STDOUT_FILENO, text);
+fn put(rt: &impl Print, text: &[u8]) {
+    let _ = rt.write_all(text);
 }
 
-fn put_number(n: u64) {
-    io::print_decimal(libc::STDOUT_FILENO, n);
+fn put_number(rt: &impl Print, n: u64) {
+    let _ = rt.print(n);
 }
 
-fn put_signed(n: i64) {
+fn put_signed(rt: &impl Print, n: i64) {
     let mut text = [0u8; 20];
     let length = page::put_signed(&mut text, 0, n);
     if length <= 20 {
-        put(&text[..length]);
+        put(rt, &text[..length]);
     }
 }
 
-fn put_bits(bits: u64) {
+fn put_bits(rt: &impl Print, bits: u64) {
     let mut text = [0u8; 16];
     put_hex(&mut text, 0, bits);
-    put(&text);
+    put(rt, &text);
 }
 
 // The bits of the double, and its places.
-fn put_real(got: Real) {
+fn put_real(rt: &impl Print, got: Real) {
     match got {
         Real::R(x, places) => {
-            put_bits(bits_of(x));
-            put(b"/");
-            put_number(places as u64);
+            put_bits(rt, bits_of(x));
+            put(rt, b"/");
+            put_number(rt, places as u64);
         }
-        Real::NotR => put(b"-"),
+        Real::NotR => put(rt, b"-"),
     }
 }
 
-fn put_u(text: &[u8]) {
-    put(b"U=");
+fn put_u(rt: &impl Print, text: &[u8]) {
+    put(rt, b"U=");
     match read_unsigned(text) {
-        Unsigned::U(n) => put_number(n),
-        Unsigned::NotU => put(b"-"),
+        Unsigned::U(n) => put_number(rt, n),
+        Unsigned::NotU => put(rt, b"-"),
     }
 }
 
-fn put_i(text: &[u8]) {
-    put(b" I=");
+fn put_i(rt: &impl Print, text: &[u8]) {
+    put(rt, b" I=");
     match read_signed(text) {
-        Signed::I(n) => put_signed(n),
-        Signed::NotI => put(b"-"),
+        Signed::I(n) => put_signed(rt, n),
+        Signed::NotI => put(rt, b"-"),
     }
 }
 
-fn put_r(text: &[u8]) {
-    put(b" R=");
-    put_real(read_real(text));
+fn put_r(rt: &impl Print, text: &[u8]) {
+    put(rt, b" R=");
+    put_real(rt, read_real(text));
 }
 
-fn put_sign(minus: bool) {
+fn put_sign(rt: &impl Print, minus: bool) {
     if minus {
-        put(b"-");
+        put(rt, b"-");
     } else {
-        put(b"+");
+        put(rt, b"+");
     }
 }
 
-fn put_d(text: &[u8]) {
-    put(b" D=");
+fn put_d(rt: &impl Print, text: &[u8]) {
+    put(rt, b" D=");
     match read_decimal(text) {
-        Decimal::NotPlain => put(b"-"),
+        Decimal::NotPlain => put(rt, b"-"),
         Decimal::Plain {
             minus,
             digits,
             places,
         } => {
-            put_sign(minus);
-            put_number(digits);
-            put(b"/");
-            put_number(places as u64);
+            put_sign(rt, minus);
+            put_number(rt, digits);
+            put(rt, b"/");
+            put_number(rt, places as u64);
         }
     }
 }
 
-fn put_a(text: &[u8]) {
-    put(b" A=");
-    put_real(read_ten_thousandths(text));
+fn put_a(rt: &impl Print, text: &[u8]) {
+    put(rt, b" A=");
+    put_real(rt, read_ten_thousandths(text));
 }
 
-fn put_t(text: &[u8]) {
-    put(b" T=");
+fn put_t(rt: &impl Print, text: &[u8]) {
+    put(rt, b" T=");
     let span = read_text(text);
-    put_number(span.place as u64);
-    put(b",");
-    put_number(span.length as u64);
+    put_number(rt, span.place as u64);
+    put(rt, b",");
+    put_number(rt, span.length as u64);
 }
 
-fn put_e(text: &[u8]) {
-    put(b" E=");
-    put_number(trim_end(text).len() as u64);
+fn put_e(rt: &impl Print, text: &[u8]) {
+    put(rt, b" E=");
+    put_number(rt, trim_end(text).len() as u64);
 }
 
 // A double in so many columns.
-fn put_cell(x: f64, width: usize, places: usize) {
+fn put_cell(rt: &impl Print, x: f64, width: usize, places: usize) {
     let mut bytes = [0u8; 10];
     let cell = cell::put_real(&mut bytes, 0, width, places, x);
-    put(b"[");
+    put(rt, b"[");
     if cell.next <= 10 {
-        put(&bytes[..cell.next]);
+        put(rt, &bytes[..cell.next]);
     }
-    put(b"]");
+    put(rt, b"]");
     if !cell.fits {
-        put(b"!");
+        put(rt, b"!");
     }
 }
 
 // In the columns and places of a coordinate, of a B factor, and of a row of a matrix.
-fn put_w(text: &[u8]) {
-    put(b" W=");
+fn put_w(rt: &impl Print, text: &[u8]) {
+    put(rt, b" W=");
     match read_real(text) {
         Real::R(x, _) => {
-            put_cell(x, 8, 3);
-            put_cell(x, 6, 2);
-            put_cell(x, 10, 6);
+            put_cell(rt, x, 8, 3);
+            put_cell(rt, x, 6, 2);
+            put_cell(rt, x, 10, 6);
         }
-        Real::NotR => put(b"-"),
+        Real::NotR => put(rt, b"-"),
     }
 }
 
-fn put_line(text: &[u8]) {
-    put_u(text);
-    put_i(text);
-    put_r(text);
-    put_d(text);
-    put_a(text);
-    put_t(text);
-    put_e(text);
-    put_w(text);
-    put(b"\n");
+fn put_line(rt: &impl Print, text: &[u8]) {
+    put_u(rt, text);
+    put_i(rt, text);
+    put_r(rt, text);
+    put_d(rt, text);
+    put_a(rt, text);
+    put_t(rt, text);
+    put_e(rt, text);
+    put_w(rt, text);
+    put(rt, b"\n");
 }
 
 // A line for each text that an LF ends.
-fn put_lines(input: &[u8]) {
+fn put_lines(rt: &impl Print, input: &[u8]) {
     let mut at = 0;
     let mut i = 0;
     while i < input.len() {
         if input[i] == 10 {
-            put_line(&input[at..i]);
+            put_line(rt, &input[at..i]);
             at = i + 1;
         }
         i += 1;
     }
 }
 
-fn main() {
-    let mut input = io::large_buffer();
-    let n = io::read_full(libc::STDIN_FILENO, &mut input);
-    put_lines(&input[..n]);
+fn main(rt: HostRuntime) {
+    let mut input = [0u8; 65536];
+    let n = read_full(&mut rt.stdin(), &mut input);
+    put_lines(&rt, &input[..n]);
 }

@@ -6,8 +6,10 @@
 ghost use Rattle.std.specs.Prelude.{◌≤◌, length};
 
 use carry::held::Held;
-use libc::STDOUT_FILENO;
+use intake::read_full;
 use parts::{feed, finish};
+use std::fs;
+use std::rt::Files;
 
 // What is held behind a part, and how many bytes are put.
 #[derive(Clone, Copy)]
@@ -121,7 +123,7 @@ fn tried_more(tried: Tried, is_same: bool) -> Tried {
 
 // Whether the n bytes are put for a file that is cut at two places.
 fn is_put(file: &[u8], i: usize, j: usize, whole: &[u8], n: usize) -> bool {
-    let mut other = io::large_buffer();
+    let mut other = [0u8; 65536];
     if put_cut(file, i, j, &mut other) != n {
         return false;
     }
@@ -153,37 +155,37 @@ fn try_first(file: &[u8], twice: bool, whole: &[u8], n: usize) -> Tried {
     try_second(file, i, twice, whole, n, now)
 }
 
-fn print_number(label: &[u8], n: u32) {
-    io::write_all(STDOUT_FILENO, label);
-    io::print_decimal(STDOUT_FILENO, n as u64);
-    io::write_all(STDOUT_FILENO, b"\n");
+fn print_number(rt: &impl Print, label: &[u8], n: u32) {
+    let _ = rt.write_all(label);
+    let _ = rt.println(n);
 }
 
-fn try_file(path: &[u8], twice: bool) {
-    let fd = os::open_read(path);
-    if fd < 0 {
-        os::fail(path);
-        return;
+fn try_file(rt: &(impl Files + Print + Eprint), path: &str, twice: bool) {
+    match fs::open(rt, path) {
+        Ok(mut file) => {
+            let mut space = [0u8; 4096];
+            let size = read_full(&mut file, &mut space);
+            try_cuts(rt, &space[..size], twice);
+        }
+        Err(why) => {
+            let _ = eprintln!(rt; "{path}: {why}");
+        }
     }
-    let mut space = io::buffer();
-    let size = io::read_full(fd, &mut space);
-    libc::close(fd);
-    try_cuts(&space[..size], twice);
 }
 
-fn try_cuts(file: &[u8], twice: bool) {
-    let mut whole = io::large_buffer();
+fn try_cuts(rt: &impl Print, file: &[u8], twice: bool) {
+    let mut whole = [0u8; 65536];
     let n = put_cut(file, 0, 0, &mut whole);
     if MANY < n {
         return;
     }
-    io::write_all(STDOUT_FILENO, &whole[..n]);
+    let _ = rt.write_all(&whole[..n]);
     let tried = try_first(file, twice, &whole, n);
-    print_number(b"ways=", tried.ways);
-    print_number(b"others=", tried.others);
+    print_number(rt, b"ways=", tried.ways);
+    print_number(rt, b"others=", tried.others);
 }
 
-fn main() {
-    try_file(b"short", true);
-    try_file(b"long", false);
+fn main(rt: HostRuntime) {
+    try_file(&rt, "short", true);
+    try_file(&rt, "long", false);
 }

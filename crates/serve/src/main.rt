@@ -41,7 +41,6 @@ ghost use Rattle.std.specs.Prelude.{◌+◌, ◌<◌, ◌≤◌, length};
 use lexer::lex_line;
 use lexitem::answer::{Answer, Outcome};
 use lexitem::item::LexItem;
-use libc::{STDIN_FILENO, STDOUT_FILENO};
 use line::fault::Faults;
 use packing::options_of;
 use saltighedda::read::saltighedda_read;
@@ -49,6 +48,7 @@ use saltighedda::{
     saltighedda_list, saltighedda_list_length, saltighedda_list_place, saltighedda_list_refusal,
 };
 use sheet::Written;
+use std::io::Read;
 use writer::{write_as_read, write_record};
 
 // The most bytes of a block.
@@ -434,32 +434,32 @@ fn end_of(block: &[u8], at: usize) -> usize
 }
 
 // Writes so many bytes of replies, and makes them marks again.
-fn send(replies: &mut [u8], n: usize) -> bool
+fn send(rt: &impl Print, replies: &mut [u8], n: usize) -> bool
     requires { n ≤ length replies.old }
 {
-    let sent = io::write_all(STDOUT_FILENO, &replies[0..n]);
+    let sent = rt.write_all(&replies[0..n]);
     mark(&mut replies[0..n]);
-    sent
+    sent.is_ok()
 }
 
 // Where the next reply goes: behind the others, or if there is no room, in front once they are written. If that fails, it goes nowhere.
-fn place_for(replies: &mut [u8], to: usize) -> usize
+fn place_for(rt: &impl Print, replies: &mut [u8], to: usize) -> usize
     requires { to ≤ length replies.old }
 {
     if REPLY <= replies.len() - to {
         return to;
     }
-    if send(replies, to) { 0 } else { NOWHERE }
+    if send(rt, replies, to) { 0 } else { NOWHERE }
 }
 
 // Answers each request of a block.
-fn answer_all(block: &[u8], tables: &[u8], replies: &mut [u8]) -> bool
+fn answer_all(rt: &impl Print, block: &[u8], tables: &[u8], replies: &mut [u8]) -> bool
     requires { 4216 ≤ length replies.old }
 {
     let mut at = 0;
     let mut to = 0;
     while at < block.len() {
-        let place = place_for(replies, to);
+        let place = place_for(rt, replies, to);
         if replies.len() - REPLY < place {
             return false;
         }
@@ -468,50 +468,57 @@ fn answer_all(block: &[u8], tables: &[u8], replies: &mut [u8]) -> bool
         to = place + n;
         at = end;
     }
-    send(replies, to)
+    send(rt, replies, to)
 }
 
 // Takes a block and says how many bytes it has, none where there is no more. It is read whole before the first reply is written: so whoever sends
 // it whole before taking the first, and takes them all before the next, never waits in vain.
-fn read_block(block: &mut [u8]) -> usize
+fn read_block(input: &mut impl Read, block: &mut [u8]) -> usize
     ensures { result ≤ length block.new }
 {
     let mut head = [0u8; WORD];
-    if io::read_full(STDIN_FILENO, &mut head) < WORD {
+    if input.read_exact(&mut head).is_err() {
         return 0;
     }
     let size = word(&head, 0);
     if block.len() < size {
         return 0;
     }
-    if io::read_full(STDIN_FILENO, &mut block[0..size]) < size {
+    if input.read_exact(&mut block[0..size]).is_err() {
         return 0;
     }
     size
 }
 
 // Answers a block, and says whether to go on.
-fn answer_block(block: &mut [u8], tables: &[u8], replies: &mut [u8]) -> bool
+fn answer_block(
+    rt: &impl Print,
+    input: &mut impl Read,
+    block: &mut [u8],
+    tables: &[u8],
+    replies: &mut [u8],
+) -> bool
     requires { 4216 ≤ length replies.old }
 {
-    let size = read_block(block);
+    let size = read_block(input, block);
     if size == 0 {
         return false;
     }
-    answer_all(&block[0..size], tables, replies)
+    answer_all(rt, &block[0..size], tables, replies)
 }
 
 // A proved loop has to end, and nothing says that the input does: it counts its turns down from a number that no run uses up.
-fn main() {
+fn main(rt: HostRuntime) {
+    let mut input = rt.stdin();
     let mut tables = [0u8; BLOCK];
     let mut block = [0u8; BLOCK];
     let mut replies = [MARK; REPLIES];
-    let n = read_block(&mut tables);
+    let n = read_block(&mut input, &mut tables);
     if n == 0 {
         return;
     }
     let mut turns = u64::MAX;
-    while 0 < turns && answer_block(&mut block, &tables[0..n], &mut replies) {
+    while 0 < turns && answer_block(&rt, &mut input, &mut block, &tables[0..n], &mut replies) {
         turns -= 1;
     }
 }

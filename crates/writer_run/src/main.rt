@@ -3,10 +3,10 @@
 // decimals as it was read with. A line that isn't read has `unread`. The file `stdout` was worked out apart from this program.
 #![tactic(auto)]
 
+use intake::read_full;
 use lexer::lex_line;
 use lexitem::answer::Outcome;
 use lexitem::item::LexItem;
-use libc::{STDIN_FILENO, STDOUT_FILENO};
 use line::columns::Columns;
 use line::options::Options;
 use sheet::Written;
@@ -16,75 +16,75 @@ use writer::{write_as_read, write_record};
 
 const NAME: Columns = Columns { start: 12, end: 16 };
 
-fn put(text: &[u8]) {
-    io::write_all(STDOUT_FILENO, text);
+fn put(rt: &impl Print, text: &[u8]) {
+    let _ = rt.write_all(text);
 }
 
-fn put_number(n: u64) {
-    io::print_decimal(STDOUT_FILENO, n);
+fn put_number(rt: &impl Print, n: u64) {
+    let _ = rt.print(n);
 }
 
-fn put_refusal(number: u64, place: u64, length: u64) {
-    put_number(number);
-    put(b",");
-    put_number(place);
-    put(b",");
-    put_number(length);
-    put(b"\n");
+fn put_refusal(rt: &impl Print, number: u64, place: u64, length: u64) {
+    put_number(rt, number);
+    put(rt, b",");
+    put_number(rt, place);
+    put(rt, b",");
+    put_number(rt, length);
+    put(rt, b"\n");
 }
 
-fn put_written(written: Written, bytes: &[u8]) {
+fn put_written(rt: &impl Print, written: Written, bytes: &[u8]) {
     match written {
         Written::Line => {
-            put(bytes);
-            put(b"\n");
+            put(rt, bytes);
+            put(rt, b"\n");
         }
-        Written::NoFit(at) => put_refusal(9, at.start as u64, at.width() as u64),
-        Written::NoRoom => put_refusal(8, 0, 80),
+        Written::NoFit(at) => put_refusal(rt, 9, at.start as u64, at.width() as u64),
+        Written::NoRoom => put_refusal(rt, 8, 0, 80),
     }
 }
 
-fn write_again(item: LexItem, text: &[u8]) {
+fn write_again(rt: &impl Print, item: LexItem, text: &[u8]) {
     let mut space = [35u8; 80];
     let name = NAME.part(text);
     let written = write_record(item, text, b" ", name, b"", &mut space);
-    put_written(written, &space);
+    put_written(rt, written, &space);
 }
 
-fn write_short(item: LexItem, text: &[u8]) {
+fn write_short(rt: &impl Print, item: LexItem, text: &[u8]) {
     let mut space = [35u8; 79];
     let name = NAME.part(text);
     let written = write_record(item, text, b" ", name, b"", &mut space);
-    put_written(written, &space);
+    put_written(rt, written, &space);
 }
 
-fn write_places(item: LexItem, text: &[u8]) {
+fn write_places(rt: &impl Print, item: LexItem, text: &[u8]) {
     let mut space = [35u8; 80];
     let name = NAME.part(text);
     let written = write_as_read(item, text, b" ", name, &mut space);
-    put_written(written, &space);
+    put_written(rt, written, &space);
 }
 
 // The mark is the byte that the line stands behind, or a blank.
-fn try_line(text: &[u8], mark: u8) {
+fn try_line(rt: &impl Print, text: &[u8], mark: u8) {
     let remarks = [1u8; 1000];
     let answer = lex_line(text, 1, Options::PLAIN, &remarks);
     let outcome = answer.outcome;
     match outcome {
         Outcome::Accepted(item) => {
             if mark == b'/' {
-                write_short(item, text);
+                write_short(rt, item, text);
             } else if mark == b'=' {
-                write_places(item, text);
+                write_places(rt, item, text);
             } else {
-                write_again(item, text);
+                write_again(rt, item, text);
             }
         }
-        Outcome::Refused(_) => put(b"unread\n"),
+        Outcome::Refused(_) => put(rt, b"unread\n"),
     }
 }
 
-fn try_lines(file: &[u8]) {
+fn try_lines(rt: &impl Print, file: &[u8]) {
     let mut at = 0;
     while at < file.len() {
         let Step::At { start, end, next } = step(file, at) else {
@@ -95,18 +95,18 @@ fn try_lines(file: &[u8]) {
         }
         let text = line(file, start, end);
         if text.len() == 0 {
-            try_line(text, b' ');
+            try_line(rt, text, b' ');
         } else if text[0] == b'/' || text[0] == b'=' {
-            try_line(&text[1..], text[0]);
+            try_line(rt, &text[1..], text[0]);
         } else {
-            try_line(text, b' ');
+            try_line(rt, text, b' ');
         }
         at = next;
     }
 }
 
-fn main() {
-    let mut space = io::large_buffer();
-    let n = io::read_full(STDIN_FILENO, &mut space);
-    try_lines(&space[..n]);
+fn main(rt: HostRuntime) {
+    let mut space = [0u8; 65536];
+    let n = read_full(&mut rt.stdin(), &mut space);
+    try_lines(&rt, &space[..n]);
 }

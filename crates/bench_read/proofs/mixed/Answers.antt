@@ -14,4 +14,4 @@ tripled s v a b r e f g =
     rw (g, f, e, mod-add-mod ((s + s) % 2 ^ 64 + s) (2 ^ 64) v, more, mod-add-mod, three) refl
 
 pub returns : goal.returns
-returns c = tripled _ _ _ _ _ c.wrapping_add_u64.ensures c.wrapping_add_u64-2.ensures c.wrapping_add_u64-3.ensures
+returns c = tripled _ _ _ _ _ c.wrapping_add_u64.ensures.value c.wrapping_add_u64-2.ensures.value c.wrapping_add_u64-3.ensures.value

@@ -1,7 +1,7 @@
 -- `bench_read::saltighedda_bench` meets its contract. The loop's invariant: the sum over the lines that are left, on top of the sum so far, is the
 -- file's; and no more lines have gone before than bytes.
 -- Assumes nothing.
-use Rattle.std.proofs.Common.{◌≡◌, ℕ, ◌+◌, ◌-◌, ◌≤◌, List, length, drop, sym, refl, ap, ◌∙◌, arith, rules}
+use Rattle.std.proofs.Common.{◌≡◌, ℕ, ◌+◌, ◌≤◌, List, length, drop, sym, refl, ap, ◌∙◌, arith, rules}
 use Rattle.lexer.specs.Lexed.{lexed}
 use Rattle.walker.specs.Lines.{lines_of, part_of}
 use Rattle.bench_read.specs.Checksum.{mixed_answer, plain_input, checksum_from, checksum_of}

@@ -5,7 +5,7 @@ use lib.ListN.{length}
 use Rattle.number_run.proofs.put_lines.Given as goal
 
 abbrev pub invariant-loop-i : goal.invariant-loop-i
-invariant-loop-i l = (l.at ≤ l.i) × (l.i ≤ length l.input)
+invariant-loop-i g l = (l.at ≤ l.i) × (l.i ≤ length l.input)
 
 abbrev pub decreases-loop-i : goal.decreases-loop-i
-decreases-loop-i l = length l.input - l.i
+decreases-loop-i g l = length l.input - l.i

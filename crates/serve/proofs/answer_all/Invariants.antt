@@ -6,7 +6,7 @@ use lib.ListN.{length}
 use Rattle.serve.proofs.answer_all.Given as goal
 
 abbrev pub invariant-loop-at : goal.invariant-loop-at
-invariant-loop-at l = (length l.replies ≡ length l.initial.replies) × (l.to ≤ length l.initial.replies)
+invariant-loop-at g l = (length l.replies ≡ length l.initial.replies) × (l.to ≤ length l.initial.replies)
 
 abbrev pub decreases-loop-at : goal.decreases-loop-at
-decreases-loop-at l = length l.block - l.at
+decreases-loop-at g l = length l.block - l.at
