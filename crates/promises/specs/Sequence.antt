@@ -1,5 +1,5 @@
 -- "The old entry remains as the two in sequence, refusal 1 still first, with the same answers on every input."
-use Rattle.std.specs.Prelude.{List, [], ◌∷◌}
+use Rattle.std.specs.Prelude.{[], ◌∷◌}
 use Rattle.lexitem.specs.declared.answer.Answer.{Answer}
 use Rattle.lexer.specs.Lexed.{refused, first_of, lexed_as, kind_asked}
 use Rattle.lexer.specs.Refusals.{Input, table_test}

@@ -3,7 +3,7 @@
 use Prim.Native.Nat.{ℕ, ◌-◌}
 use mathlib.Core.Path.{◌≡◌, refl}
 use mathlib.Core.List.{List, [], ◌∷◌, ◌++◌, map}
-use lib.ListN.{length, replicate}
+use lib.ListN.{replicate}
 use Rattle.kind.specs.Kind.{kind_of}
 use Rattle.line.specs.Bytes.{bytes}
 use Rattle.line.specs.Columns.{◌⋯◌}

@@ -1,6 +1,5 @@
 -- `mend::put_blanks` meets its contract. The loop's invariant: with the blanks that are left, the bytes are as all of them leave them.
 -- Assumes nothing.
-use Prim.Native.Nat.{◌-◌}
 use mathlib.Core.Path.{refl}
 use native.Mathlib.Nat.{add-zero, sub-zero}
 use borrow.Author.Rules.{rules}

@@ -1,6 +1,5 @@
 -- `mend::put_line` meets its contract. The loop's invariant: with the rest of the line, the bytes are as the whole line leaves them.
 -- Assumes nothing.
-use Prim.Native.Nat.{◌-◌}
 use borrow.Author.Rules.{rules}
 use Rattle.mend.proofs.Laws.Steps.{line-next, line-done}
 use Rattle.mend.proofs.put_line.Goals as goal

@@ -1,7 +1,7 @@
 -- A refusal as one number.
 --     packed-small     one whose number and place have sixteen bits and whose length has thirty-two stands there as it is
 -- Assumes nothing.
-use Prim.Native.Nat.{ℕ, ◌<◌}
+use Prim.Native.Nat.{◌<◌}
 use mathlib.Core.Path.{◌≡◌, refl}
 use native.Mathlib.Nat.{mod-eq_of_lt}
 use Rattle.lexitem.specs.declared.answer.Refusal.{Refusal}

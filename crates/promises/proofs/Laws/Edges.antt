@@ -33,7 +33,7 @@ use Rattle.lexitem.specs.Describe.{faults_of}
 use Rattle.lexitem.specs.Fault.{stamped_as, told}
 use Rattle.lexer.specs.Refusals.{plain}
 use Rattle.lexer.specs.Lexed.{lexed}
-use Rattle.promises.specs.Edges.{Case, ClaimsFound, CasesFound, answer_to, cases_with, edges, exponents}
+use Rattle.promises.specs.Edges.{Case, CasesFound, cases_with, edges, exponents}
 use Rattle.promises.specs.Defaults.{defaults, readings}
 use Rattle.promises.specs.Idle.{idle}
 use Rattle.promises.proofs.Laws.Idle.{exponents-idle}

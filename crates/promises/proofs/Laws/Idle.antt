@@ -2,10 +2,9 @@
 --     exponents-idle    the whole answer
 -- Assumes nothing.
 use Prim.Native.Nat.{ℕ}
-use mathlib.Core.Path.{◌≡◌, refl, sym, ap, ◌∙◌}
-use mathlib.Core.Bool.{Bool, true, false, ◌&&◌}
-use mathlib.Core.List.{List, [], ◌∷◌, ◌++◌}
-use lib.Ieee.{Float}
+use mathlib.Core.Path.{◌≡◌, refl, sym, ◌∙◌}
+use mathlib.Core.Bool.{Bool, true, false}
+use mathlib.Core.List.{List, [], ◌∷◌}
 use Rattle.number.specs.Wide.{marked_of}
 use Rattle.number.specs.declared.wide.Wide.{Wide}
 use Rattle.number.specs.declared.wide.Wide.TheVariants.{W, NotW}
@@ -17,7 +16,6 @@ use Rattle.real.specs.declared.Real.TheVariants.{R, NotR}
 use Rattle.real.proofs.Laws.WideReal.{off-is, on-is, marked-is}
 use Rattle.line.specs.Columns.{part_of}
 use Rattle.line.specs.Given.{Given}
-use Rattle.line.specs.declared.columns.Columns.{Columns}
 use Rattle.field.specs.Number.{real_at, places_at}
 use Rattle.field.specs.Table.{Entry, faults_by, table_faults}
 use Rattle.field.specs.Table.Entry.{u, i, r, t, c, c?, a, u-rest, x, t_within, t-rest, t-end, charge, known, given, unwritten, triples}

@@ -1,7 +1,7 @@
 -- "The old entry remains as the two in sequence, refusal 1 still first, with the same answers on every input."
 --     in_sequence_lem     asking for the kind and reading the line as that kind is lexing it
 -- Assumes nothing.
-use mathlib.Core.Path.{◌≡◌, refl, ◌∙◌}
+use mathlib.Core.Path.{◌≡◌, refl}
 use mathlib.Core.Bool.{Bool, true, false, cond, not}
 use borrow.Author.Tests.{eq-eqb}
 use lib.ListN.{length}
@@ -10,7 +10,7 @@ use Rattle.kind.specs.Kind.{number_of}
 use Rattle.lexitem.specs.declared.answer.Answer.{Answer}
 use Rattle.lexitem.specs.declared.answer.Refusal.{Refusal}
 use Rattle.lexitem.specs.Answer.{refusal}
-use Rattle.lexer.specs.Lexed.{refused, lexed, lexed_as, kind_asked}
+use Rattle.lexer.specs.Lexed.{refused, lexed, lexed_as}
 use Rattle.lexer.specs.Refusals.{Input, kind, given, line_tests}
 use Rattle.lexer.specs.Steps.{first_refusal, read_as}
 use Rattle.lexer.specs.declared.Asked.TheVariants as asked

@@ -1,6 +1,5 @@
 -- `mend::changes::note_runs` meets its contract. The loop's invariant: with the runs of the rest, the notes are as those of the whole line.
 -- Assumes nothing.
-use Prim.Native.Nat.{◌-◌}
 use mathlib.Core.Path.{◌∙◌}
 use native.Mathlib.Omega.{arith}
 use lib.ListN.{get_or}

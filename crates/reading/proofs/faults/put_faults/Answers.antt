@@ -1,6 +1,5 @@
 -- `reading::putput_faults` meets its contract. The loop's invariant: the words of the faults before i are put behind the place of their number.
 -- Assumes nothing.
-use Prim.Native.Nat.{◌-◌}
 use mathlib.Core.Path.{refl, ◌∙◌}
 use native.Mathlib.Omega.{arith}
 use lib.ListN.{set, length-set}

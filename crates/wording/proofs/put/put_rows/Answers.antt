@@ -1,6 +1,5 @@
 -- `wording::putput_rows` meets its contract. The loop's invariant: the words of the rows before i are put, two a row at most.
 -- Assumes nothing.
-use Prim.Native.Nat.{◌-◌}
 use mathlib.Core.Path.{refl}
 use native.Mathlib.Omega.{arith}
 use Rattle.layout.specs.Each.{each}
