@@ -13,7 +13,7 @@ if why=$(missing c); then echo "emulated.sh: $why" >&2; exit 2; fi
 made=target/bench
 mkdir -p $made
 if [ -z "${BENCH_READ:-}" ]; then
-    BENCH_READ=crates/bench_read/out/libbench_read.a
+    BENCH_READ=crates/bench_read_c/out/libbench_read_c.a
     make --no-print-directory $BENCH_READ
 fi
 "${RUSTC:-rustc}" --edition 2021 -C opt-level=3 -o $made/lines bench/src/lines.rs

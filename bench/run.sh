@@ -32,8 +32,8 @@ export PDBTBX_SRC
 
 mkdir -p "$made"
 if [ -z "${BENCH_READ:-}" ]; then
-    make --no-print-directory -C "$repository" crates/bench_read/out/libbench_read.a
-    BENCH_READ=$repository/crates/bench_read/out/libbench_read.a
+    make --no-print-directory -C "$repository" crates/bench_read_c/out/libbench_read_c.a
+    BENCH_READ=$repository/crates/bench_read_c/out/libbench_read_c.a
 fi
 if [ -z "${SALTIGHEDDA:-}" ]; then
     make --no-print-directory -C "$repository" target/staticlib/libsaltighedda.a

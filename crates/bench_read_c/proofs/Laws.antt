@@ -1,0 +1,2 @@
+-- What follows from the contracts.
+pub mod Single
