@@ -1,8 +1,7 @@
 -- "A line ends at LF, a CR just before LF is dropped, and an empty last piece is no line." LF is byte 10 and CR byte 13. A last piece that
 -- isn't empty is a line, and keeps a CR at its end.
-use Rattle.std.specs.Prelude.{ℕ, suc, ◌+◌, ◌-◌, ◌^◌, ◌<◌, min, ◌≡◌, Bool, true, false, cond, ◌&&◌, ◌||◌, List, [], ◌∷◌, length, take, drop, leb, ltb, eqb}
-use Rattle.walker.specs.declared.lines.Step.{Step}
-use Rattle.walker.specs.declared.lines.Step.TheVariants.{At, End}
+use Rattle.std.specs.Prelude.{ℕ, suc, ◌+◌, ◌-◌, ◌^◌, ◌<◌, min, ◌≡◌, Bool, true, false, cond, ◌&&◌, ◌||◌, List, [], ◌∷◌, length, take, drop, leb, ltb, eqb, Option, Some, None}
+use Rattle.walker.specs.declared.Line.{Line}
 
 -- whether a text begins with LF
 unfoldable pub lf_first : List ℕ → Bool
@@ -34,9 +33,13 @@ unfoldable pub line_taken : List ℕ → ℕ
 line_taken [] = 0
 line_taken (b ∷ t) = cond (eqb b 10) 1 (suc (line_taken t))
 
--- what stands at an offset of a file: a line, with its end and the offset behind what it takes up; or the end
-unfoldable pub step_at : List ℕ → ℕ → Step
-step_at f at = cond (ltb at (length f)) (At at (at + line_length (drop at f)) (at + line_taken (drop at f))) End
+-- the line from `start` up to `end`, with what follows it at `next`
+abbrev pub line_of : ℕ → ℕ → ℕ → Line
+line_of start end next = record { start = start; end = end; next = next }
+
+-- the line at an offset of a file, with its end and the offset of what follows it; or none at the end
+unfoldable pub step_at : List ℕ → ℕ → Option Line
+step_at f at = cond (ltb at (length f)) (Some (line_of at (at + line_length (drop at f)) (at + line_taken (drop at f)))) None
 
 -- the bytes from `start` up to `end`, or none if they don't lie in the file
 unfoldable pub part_of : List ℕ → ℕ → ℕ → List ℕ
@@ -44,9 +47,9 @@ part_of f start end = cond (leb start end && leb end (length f)) (take (end - st
 
 -- ---- line after line
 -- the line of a step and then the rest from `next`, or nothing at the end
-abbrev pub collected : List ℕ → (ℕ → List (List ℕ)) → Step → List (List ℕ)
-collected f rest (At start end next) = part_of f start end ∷ rest next
-collected f rest End = []
+abbrev pub collected : List ℕ → (ℕ → List (List ℕ)) → Option Line → List (List ℕ)
+collected f rest (Some l) = part_of f l.start l.end ∷ rest l.next
+collected f rest None = []
 
 -- the lines of at most n steps from an offset on
 unfoldable pub walked_for : ℕ → List ℕ → ℕ → List (List ℕ)

@@ -5,9 +5,15 @@
 ghost use Rattle.std.specs.Prelude.{◌≡◌};
 ghost use Rattle.walker.specs.Lines.{number_behind, step_at};
 
-use crate::lines::Step;
-
 pub mod lines;
+
+// A line of a file: it goes from `start` up to `end`, and what follows it begins at `next`.
+#[derive(Clone, Copy)]
+pub struct Line {
+    pub start: usize,
+    pub end: usize,
+    pub next: usize,
+}
 
 // A file and the offset of a line in it, or of the end.
 #[derive(Clone, Copy)]
@@ -23,8 +29,8 @@ pub fn new<'a>(file: &'a [u8]) -> Walker<'a>
     Walker { file, at: 0 }
 }
 
-// The line that the walker stands at, and where the next one begins.
-pub fn next<'a>(walker: Walker<'a>) -> Step
+// The line that the walker stands at, or None at the end.
+pub fn next<'a>(walker: Walker<'a>) -> Option<Line>
     ensures { result ≡ step_at walker.entry.file.now walker.entry.at }
 {
     lines::line_at(walker.file, walker.at)
@@ -40,8 +46,8 @@ pub fn moved<'a>(walker: Walker<'a>, at: usize) -> Walker<'a>
     }
 }
 
-// What a walker of the file finds at an offset.
-pub fn step(file: &[u8], at: usize) -> Step
+// The line that a walker of the file finds at an offset, or None at the end.
+pub fn step(file: &[u8], at: usize) -> Option<Line>
     ensures { result ≡ step_at file.now at }
 {
     next(moved(new(file), at))

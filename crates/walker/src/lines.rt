@@ -2,16 +2,7 @@
 ghost use Rattle.std.specs.Prelude.{false, ◌≡◌, ◌+◌, ◌<◌, length, drop};
 ghost use Rattle.walker.specs.Lines.{before_lf, has_lf, FullAt, line_length, step_at, part_of};
 
-// What stands at an offset of a file: a line, from `start` up to `end`, with the offset of what follows it; or the end.
-#[derive(Clone, Copy)]
-pub enum Step {
-    At {
-        start: usize,
-        end: usize,
-        next: usize,
-    },
-    End,
-}
+use crate::Line;
 
 // Whether some bytes hold an LF. There is no way out of the loop before its end, so that many bytes are compared at once.
 fn has_lf(bytes: &[u8]) -> bool
@@ -99,27 +90,27 @@ fn line_end(file: &[u8], at: usize, lf: usize) -> usize
     lf
 }
 
-// The line at an offset.
-pub fn line_at(file: &[u8], at: usize) -> Step
+// The line at an offset, or None at the end.
+pub fn line_at(file: &[u8], at: usize) -> Option<Line>
     ensures { result ≡ step_at file.now at }
 {
     if file.len() <= at {
-        return Step::End;
+        return None;
     }
     let lf = find_lf(file, at);
     if file.len() <= lf {
-        return Step::At {
+        return Some(Line {
             start: at,
             end: lf,
             next: lf,
-        };
+        });
     }
     let end = line_end(file, at, lf);
-    Step::At {
+    Some(Line {
         start: at,
         end,
         next: lf + 1,
-    }
+    })
 }
 
 // The bytes of the file from `start` up to `end`, or none if they don't lie in it.

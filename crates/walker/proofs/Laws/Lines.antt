@@ -8,19 +8,21 @@
 --     walked_from, walked_lines     step after step gives the lines, in order, once each, and then the end
 -- Assumes nothing.
 use Prim.Native.Nat.{ℕ, suc, ◌+◌, ◌-◌, ◌≤◌, ◌<◌}
-use mathlib.Core.Path.{◌≡◌, refl, sym, ap}
+use mathlib.Core.Path.{◌≡◌, refl, sym, ap, ◌∙◌}
 use mathlib.Core.Logic.{◌↔◌, ⊎_elim}
 use mathlib.Core.Bool.{Bool, true, false, cond, ◌&&◌, ◌||◌}
 use mathlib.Core.List.Memᴰ
 use mathlib.Core.List.{List, [], ◌∷◌, Memᴰ}
+use Rattle.std.proofs.Common.{Some, None}
+use Rattle.std.proofs.lemmas.Option.{same_Some}
 use native.Mathlib.Nat.{add-sub_cancel_left}
 use native.Mathlib.Omega.{arith}
 use borrow.Author.Tests.{lt-ltb, le-ltb, le-leb, ltb-true, ltb-false, eqb-false}
 use lib.ListN.{length, take, drop, length-drop, drop_of_length-le}
 use lib.Seq.{drop-drop}
 use lib.Dec.{ltb, eqb}
-use Rattle.walker.specs.Lines.{lf_first, cr_before, longer, lines_of, line_length, line_taken, step_at, part_of, walked_for, walked}
-use Rattle.walker.specs.declared.lines.Step.TheVariants.{At, End}
+use Rattle.walker.specs.declared.Line.{Line}
+use Rattle.walker.specs.Lines.{lf_first, cr_before, longer, lines_of, line_length, line_taken, line_of, step_at, part_of, walked_for, walked}
 use Rattle.walker.proofs.Laws.Pieces.{length_taken, taken-le, taken-some}
 
 -- ---- the first line
@@ -96,16 +98,16 @@ unfolding part_of
 part-inside f start end a b = rw (le-leb start end a, le-leb end (length f) b) refl
 
 -- ---- a step
-pub step_in : (f : List ℕ) (at : ℕ) → at < length f → step_at f at ≡ At at (at + line_length (drop at f)) (at + line_taken (drop at f))
+pub step_in : (f : List ℕ) (at : ℕ) → at < length f → step_at f at ≡ Some (line_of at (at + line_length (drop at f)) (at + line_taken (drop at f)))
 unfolding step_at
 step_in f at h = rw (lt-ltb at (length f) h) refl
 
-step-out : (f : List ℕ) (at : ℕ) → length f ≤ at → step_at f at ≡ End
+step-out : (f : List ℕ) (at : ℕ) → length f ≤ at → step_at f at ≡ None
 unfolding step_at
 step-out f at h = rw (le-ltb at (length f) h) refl
 
-inside : (f : List ℕ) (at start end next : ℕ) → step_at f at ≡ At start end next → at < length f
-inside f at start end next e = go (ltb at (length f)) refl
+inside : (f : List ℕ) (at : ℕ) (l : Line) → step_at f at ≡ Some l → at < length f
+inside f at l e = go (ltb at (length f)) refl
   where
     go : (p : Bool) → ltb at (length f) ≡ p → at < length f
     go true h = ltb-true at (length f) h
@@ -113,10 +115,10 @@ inside f at start end next e = go (ltb at (length f)) refl
         let o = step-out f at (ltb-false at (length f) h) in
         absurd (let z : ◌≡◌ {A = ℕ} 0 1 = cc in omega arith)
 
-pub step_end : (f : List ℕ) (at : ℕ) → (step_at f at ≡ End) ↔ (length f ≤ at)
+pub step_end : (f : List ℕ) (at : ℕ) → (step_at f at ≡ None) ↔ (length f ≤ at)
 step_end f at = (λ e. go (ltb at (length f)) refl e, step-out f at)
   where
-    go : (p : Bool) → ltb at (length f) ≡ p → step_at f at ≡ End → length f ≤ at
+    go : (p : Bool) → ltb at (length f) ≡ p → step_at f at ≡ None → length f ≤ at
     go false h e = ltb-false at (length f) h
     go true h e =
         let o = step_in f at (ltb-true at (length f) h) in
@@ -155,14 +157,11 @@ served f at h =
       within = omega arith;
     }
 
-pub step-served : (f : List ℕ) (at start end next : ℕ) → step_at f at ≡ At start end next → Served f at start end next
-step-served f at start end next e =
-    let h = inside f at start end next e in
-    let s = step_in f at h in
-    let a : at ≡ start = cc in
-    let b : at + line_length (drop at f) ≡ end = cc in
-    let c : at + line_taken (drop at f) ≡ next = cc in
-    rw (← b, ← c, ← a) (served f at h)
+pub step-served : (f : List ℕ) (at : ℕ) (l : Line) → step_at f at ≡ Some l → Served f at l.start l.end l.next
+step-served f at l e =
+    let h = inside f at l e in
+    let k = same_Some _ l (sym (step_in f at h) ∙ e) in
+    rw (← k) (served f at h)
 
 -- ---- step after step
 walked_end : (n : ℕ) (f : List ℕ) (at : ℕ) → length f ≤ at → walked_for n f at ≡ lines_of (drop at f)

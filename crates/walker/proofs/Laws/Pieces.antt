@@ -8,14 +8,14 @@ use Prim.Native.Nat.{ℕ, suc, ◌+◌, ◌-◌, ◌≤◌, ◌<◌}
 use mathlib.Core.Path.{◌≡◌, refl, ap, ◌∙◌}
 use mathlib.Core.Bool.{Bool, true, false, cond, ◌&&◌, ◌||◌}
 use mathlib.Core.List.{List, [], ◌∷◌}
+use Rattle.std.proofs.Common.{Some}
 use native.Mathlib.Numerals.{add-one}
 use native.Mathlib.Omega.{arith}
 use borrow.Author.Tests.{lt-ltb, eq-eqb, ne_eqb}
 use lib.ListN.{length, drop, get_or, length-drop, drop_of_length-le}
 use lib.Seq.{drop-cons, get_or-drop}
 use lib.Dec.{eqb}
-use Rattle.walker.specs.Lines.{lf_first, cr_before, line_length, line_taken, step_at, before_lf}
-use Rattle.walker.specs.declared.lines.Step.TheVariants.{At}
+use Rattle.walker.specs.Lines.{lf_first, cr_before, line_length, line_taken, line_of, step_at, before_lf}
 
 -- ---- what the first line takes up
 pub length_taken : (t : List ℕ) → line_length t ≤ line_taken t
@@ -187,13 +187,13 @@ module _ (f : List ℕ) (at lf : ℕ) (e : lf ≡ at + before_lf (drop at f)) wh
     pub end-other : (lf ≡ at → ⊥) → (get_or f (lf - 1) 0 ≡ 13 → ⊥) → lf ≡ at + line_length (drop at f)
     end-other z b = let l : line_length (drop at f) ≡ lf - at = rw (ne_eqb (get_or f (lf - 1) 0) 13 b) at (before z) in omega arith
 
-    pub step-lf : (end : ℕ) → end ≡ at + line_length (drop at f) → At at end (lf + 1) ≡ step_at f at
+    pub step-lf : (end : ℕ) → end ≡ at + line_length (drop at f) → Some (line_of at end (lf + 1)) ≡ step_at f at
     unfolding step_at
     step-lf end g =
         let n : lf + 1 ≡ at + line_taken (drop at f) = omega (arith, taken-lf (drop at f) lf-inside) in
         rw (lt-ltb at (length f) (omega arith), g, n) refl
 
-  pub step-last : at < length f → length f ≤ lf → At at lf lf ≡ step_at f at
+  pub step-last : at < length f → length f ≤ lf → Some (line_of at lf lf) ≡ step_at f at
   unfolding step_at
   step-last i h =
       let all : length (drop at f) ≤ before_lf (drop at f) = omega (arith, length-drop at f) in
