@@ -24,16 +24,10 @@ impl Refusal {
     }
 }
 
-#[derive(Clone, Copy)]
-pub enum Outcome {
-    Accepted(LexItem),
-    Refused(Refusal),
-}
-
 // The line's number is handed through. A refusal stands beside an empty list of faults.
 #[derive(Clone, Copy)]
 pub struct Answer {
     pub line: usize,
-    pub outcome: Outcome,
+    pub outcome: Result<LexItem, Refusal>,
     pub faults: LineFaults,
 }
