@@ -1,6 +1,9 @@
 // A row of a listing as data: a field's first column, and what stands there.
 #![tactic(auto)]
 
+ghost use Rattle.std.specs.Prelude.{◌≡◌};
+ghost use Rattle.row.specs.Rows.{rows_of};
+
 use line::text::{Character, Text};
 
 // What stands in a field.
@@ -36,4 +39,14 @@ impl Rows {
     pub const NONE: Rows = Rows {
         list: [Row::NONE; 16],
     };
+
+    // The rows given, and behind them those that show nothing. Rows behind the sixteenth are left out.
+    pub fn of<const N: usize>(rows: [Row; N]) -> Rows
+        ensures { result ≡ rows_of rows.entry }
+    {
+        let mut list = [Row::NONE; 16];
+        let shown = N.min(16);
+        list[..shown].copy_from_slice(&rows[..shown]);
+        Rows { list }
+    }
 }
