@@ -10,13 +10,13 @@ use Rattle.line.specs.Faults.{no_faults}
 use Rattle.line.specs.Given.{Given}
 use Rattle.line.specs.declared.columns.Columns.{Columns}
 use Rattle.line.specs.declared.fault.Faults.{Faults}
+use Rattle.line.specs.declared.fault.Got.{Got}
 use Rattle.row.specs.Rows.{◌is◌}
 use Rattle.row.specs.declared.Row.{Row}
 use Rattle.row.specs.declared.Value.TheVariants.{Unsigned, Real, Words}
 use Rattle.crystal.specs.declared.record.Cell.{Cell}
 use Rattle.crystal.specs.declared.record.CellPlaces.{CellPlaces}
 use Rattle.crystal.specs.declared.record.Crystal.{Crystal}
-use Rattle.crystal.specs.declared.read.GotCrystal.{GotCrystal}
 
 -- the columns by name, for the record and its rows; the table has them in numbers
 pub data Field : Type 0 where
@@ -81,7 +81,7 @@ crystal_of on l = record { cell = cell_of on l; places = cell_places_of on l; sp
 abbrev pub got_z : List ℕ → Faults → GotUnsigned
 got_z l fs = record { value = z_of (has_z l) l; faults = line_noted l (z_entry (has_z l) ∷ []) fs }
 
-abbrev pub got_crystal : Given → GotCrystal
+abbrev pub got_crystal : Given → Got Crystal
 got_crystal g =
     record { value = crystal_of g.options.exponents g.line; faults = table_noted g (crystal_table (has_z g.line)) no_faults }
 

@@ -7,13 +7,7 @@ ghost use Rattle.crystal.specs.Crystal as specs;
 use crate::record::{Cell, CellPlaces, Crystal};
 use field::number_field::{GotUnsigned, real, unsigned_from};
 use field::text_field::text_within;
-use line::fault::Faults;
-
-#[derive(Clone, Copy)]
-pub struct GotCrystal {
-    pub value: Crystal,
-    pub faults: Faults,
-}
+use line::fault::{Faults, Got};
 
 #[derive(Clone, Copy)]
 pub struct GotCell {
@@ -67,7 +61,7 @@ fn lex_z(line: &[u8], faults: Faults) -> GotUnsigned
     unsigned_from(line, Crystal::Z, faults)
 }
 
-pub fn lex_cryst(line: &[u8], exponents: bool) -> GotCrystal
+pub fn lex_cryst(line: &[u8], exponents: bool) -> Got<Crystal>
     ensures { result ≡ specs.got_crystal (taking exponents line.now) }
 {
     let cell = lex_cell(line, exponents, Faults::none());
@@ -75,7 +69,7 @@ pub fn lex_cryst(line: &[u8], exponents: bool) -> GotCrystal
     let z = lex_z(line, cell.faults);
     let crystal = Crystal::new(cell.value, cell.places, spacegroup, z.value);
     let faults = z.faults;
-    GotCrystal {
+    Got {
         value: crystal,
         faults,
     }

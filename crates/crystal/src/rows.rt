@@ -12,8 +12,7 @@ pub fn crystal_rows(crystal: Crystal) -> Rows
     let cell = crystal.cell;
     let places = crystal.places;
     let spacegroup = crystal.spacegroup;
-    let none = Row::NONE;
-    let list = [
+    Rows::of([
         Row(Cell::A.start, Value::Real(cell.a, places.a)),
         Row(Cell::B.start, Value::Real(cell.b, places.b)),
         Row(Cell::C.start, Value::Real(cell.c, places.c)),
@@ -22,14 +21,5 @@ pub fn crystal_rows(crystal: Crystal) -> Rows
         Row(Cell::GAMMA.start, Value::Real(cell.gamma, places.gamma)),
         Row(Crystal::SPACEGROUP.start, Value::Words(spacegroup)),
         Row(Crystal::Z, Value::Unsigned(crystal.z)),
-        none,
-        none,
-        none,
-        none,
-        none,
-        none,
-        none,
-        none,
-    ];
-    Rows { list }
+    ])
 }

@@ -11,6 +11,7 @@ use Rattle.line.specs.Faults.{no_faults}
 use Rattle.line.specs.Given.{Given}
 use Rattle.line.specs.declared.columns.Columns.{Columns}
 use Rattle.line.specs.declared.fault.Faults.{Faults}
+use Rattle.line.specs.declared.fault.Got.{Got}
 use Rattle.line.specs.declared.options.Mode.{Mode}
 use Rattle.line.specs.declared.options.Mode.TheVariants.{Crate, WwPdb}
 use Rattle.row.specs.Rows.{◌is◌}
@@ -20,10 +21,6 @@ use Rattle.dbref.specs.declared.record.Segment.{Segment}
 use Rattle.dbref.specs.declared.record.Dbref.{Dbref}
 use Rattle.dbref.specs.declared.record.Dbref1.{Dbref1}
 use Rattle.dbref.specs.declared.record.Dbref2.{Dbref2}
-use Rattle.dbref.specs.declared.read.GotSegment.{GotSegment}
-use Rattle.dbref.specs.declared.read.GotDbref.{GotDbref}
-use Rattle.dbref.specs.declared.read.GotDbref1.{GotDbref1}
-use Rattle.dbref.specs.declared.read.GotDbref2.{GotDbref2}
 
 -- ---- the tables
 -- in crate mode a DBREF1's end begins a column later
@@ -122,20 +119,20 @@ dbref2_of l = record {
 }
 
 -- a segment, read from columns that are handed over
-abbrev pub got_segment : List ℕ → Columns → ℕ → Columns → ℕ → Faults → GotSegment
+abbrev pub got_segment : List ℕ → Columns → ℕ → Columns → ℕ → Faults → Got Segment
 got_segment l begin opening end closing fs =
     let s : SegmentAt = record { begin = begin; opening = only opening; end = end; closing = only closing } in
     record { value = segment_of l s; faults = line_noted l (segment_table s) fs }
 
-abbrev pub got_dbref : Given → GotDbref
+abbrev pub got_dbref : Given → Got Dbref
 got_dbref g = record { value = dbref_of g.line; faults = table_noted g dbref_table no_faults }
 
-abbrev pub got_dbref1 : Given → GotDbref1
+abbrev pub got_dbref1 : Given → Got Dbref1
 got_dbref1 g =
     let mode = g.options.mode in
     record { value = dbref1_of mode g.line; faults = table_noted g (dbref1_table mode) no_faults }
 
-abbrev pub got_dbref2 : Given → GotDbref2
+abbrev pub got_dbref2 : Given → Got Dbref2
 got_dbref2 g = record { value = dbref2_of g.line; faults = table_noted g dbref2_table no_faults }
 
 abbrev pub segment_fields : SegmentAt → Segment → List Row

@@ -7,32 +7,8 @@ use crate::record::{Dbref, Dbref1, Dbref2, Segment};
 use field::number_field::signed;
 use field::text_field::{character, text};
 use line::columns::Columns;
-use line::fault::Faults;
+use line::fault::{Faults, Got};
 use line::options::Mode;
-
-#[derive(Clone, Copy)]
-pub struct GotDbref {
-    pub value: Dbref,
-    pub faults: Faults,
-}
-
-#[derive(Clone, Copy)]
-pub struct GotDbref1 {
-    pub value: Dbref1,
-    pub faults: Faults,
-}
-
-#[derive(Clone, Copy)]
-pub struct GotDbref2 {
-    pub value: Dbref2,
-    pub faults: Faults,
-}
-
-#[derive(Clone, Copy)]
-pub struct GotSegment {
-    pub value: Segment,
-    pub faults: Faults,
-}
 
 // Where a stretch begins and ends, each with its insertion code.
 fn lex_segment(
@@ -42,7 +18,7 @@ fn lex_segment(
     end: Columns,
     closing: u16,
     faults: Faults,
-) -> GotSegment
+) -> Got<Segment>
     ensures { result ≡ specs.got_segment line.now begin opening end closing faults }
 {
     let begin = signed(line, begin, faults);
@@ -53,10 +29,10 @@ fn lex_segment(
     let last = closing.value;
     let value = Segment::new(begin.value, first, end.value, last);
     let faults = closing.faults;
-    GotSegment { value, faults }
+    Got { value, faults }
 }
 
-pub fn lex_dbref(line: &[u8]) -> GotDbref
+pub fn lex_dbref(line: &[u8]) -> Got<Dbref>
     ensures { result ≡ specs.got_dbref (alone line.now) }
 {
     let code = text(line, Dbref::CODE, Faults::none());
@@ -90,13 +66,13 @@ pub fn lex_dbref(line: &[u8]) -> GotDbref
         target.value,
     );
     let faults = target.faults;
-    GotDbref {
+    Got {
         value: dbref,
         faults,
     }
 }
 
-pub fn lex_dbref1(line: &[u8], mode: Mode) -> GotDbref1
+pub fn lex_dbref1(line: &[u8], mode: Mode) -> Got<Dbref1>
     ensures { result ≡ specs.got_dbref1 (in_mode mode line.now) }
 {
     let end = Dbref1::end(mode);
@@ -121,13 +97,13 @@ pub fn lex_dbref1(line: &[u8], mode: Mode) -> GotDbref1
         mode,
     );
     let faults = name.faults;
-    GotDbref1 {
+    Got {
         value: dbref,
         faults,
     }
 }
 
-pub fn lex_dbref2(line: &[u8]) -> GotDbref2
+pub fn lex_dbref2(line: &[u8]) -> Got<Dbref2>
     ensures { result ≡ specs.got_dbref2 (alone line.now) }
 {
     let code = text(line, Dbref::CODE, Faults::none());
@@ -143,7 +119,7 @@ pub fn lex_dbref2(line: &[u8]) -> GotDbref2
         end.value,
     );
     let faults = end.faults;
-    GotDbref2 {
+    Got {
         value: dbref,
         faults,
     }

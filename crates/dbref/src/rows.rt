@@ -20,8 +20,7 @@ pub fn dbref_rows(dbref: Dbref) -> Rows
     let target = dbref.target;
     let target_opening = target.opening;
     let target_closing = target.closing;
-    let none = Row::NONE;
-    let list = [
+    Rows::of([
         Row(Dbref::CODE.start, Value::Words(code)),
         Row(Dbref::CHAIN.start, Value::Words(chain)),
         Row(Dbref::BEGIN.start, Value::Signed(segment.begin)),
@@ -35,11 +34,7 @@ pub fn dbref_rows(dbref: Dbref) -> Rows
         Row(Dbref::TARGET_OPENING, Value::One(target_opening)),
         Row(Dbref::TARGET_END.start, Value::Signed(target.end)),
         Row(Dbref::TARGET_CLOSING, Value::One(target_closing)),
-        none,
-        none,
-        none,
-    ];
-    Rows { list }
+    ])
 }
 
 pub fn dbref1_rows(dbref1: Dbref1) -> Rows
@@ -54,8 +49,7 @@ pub fn dbref1_rows(dbref1: Dbref1) -> Rows
     let name = dbref1.name;
     let mode = dbref1.mode;
     let end = Dbref1::end(mode);
-    let none = Row::NONE;
-    let list = [
+    Rows::of([
         Row(Dbref::CODE.start, Value::Words(code)),
         Row(Dbref::CHAIN.start, Value::Words(chain)),
         Row(Dbref::BEGIN.start, Value::Signed(segment.begin)),
@@ -64,16 +58,7 @@ pub fn dbref1_rows(dbref1: Dbref1) -> Rows
         Row(Dbref::CLOSING, Value::One(closing)),
         Row(Dbref::DATABASE.start, Value::Words(database)),
         Row(Dbref1::NAME.start, Value::Words(name)),
-        none,
-        none,
-        none,
-        none,
-        none,
-        none,
-        none,
-        none,
-    ];
-    Rows { list }
+    ])
 }
 
 pub fn dbref2_rows(dbref2: Dbref2) -> Rows
@@ -82,24 +67,11 @@ pub fn dbref2_rows(dbref2: Dbref2) -> Rows
     let code = dbref2.code;
     let chain = dbref2.chain;
     let accession = dbref2.accession;
-    let none = Row::NONE;
-    let list = [
+    Rows::of([
         Row(Dbref::CODE.start, Value::Words(code)),
         Row(Dbref::CHAIN.start, Value::Words(chain)),
         Row(Dbref2::ACCESSION.start, Value::Words(accession)),
         Row(Dbref2::BEGIN.start, Value::Signed(dbref2.begin)),
         Row(Dbref2::END.start, Value::Signed(dbref2.end)),
-        none,
-        none,
-        none,
-        none,
-        none,
-        none,
-        none,
-        none,
-        none,
-        none,
-        none,
-    ];
-    Rows { list }
+    ])
 }

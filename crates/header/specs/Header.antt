@@ -6,12 +6,12 @@ use Rattle.line.specs.Columns.{◌⋯◌}
 use Rattle.line.specs.Faults.{no_faults}
 use Rattle.line.specs.Given.{Given}
 use Rattle.line.specs.declared.columns.Columns.{Columns}
+use Rattle.line.specs.declared.fault.Got.{Got}
 use Rattle.line.specs.declared.text.Text.{Text}
 use Rattle.row.specs.Rows.{◌is◌}
 use Rattle.row.specs.declared.Row.{Row}
 use Rattle.row.specs.declared.Value.TheVariants.{Words}
 use Rattle.header.specs.declared.record.Header.{Header}
-use Rattle.header.specs.declared.read.GotHeader.{GotHeader}
 
 -- the columns by name, for the record and its rows; the table has them in numbers
 pub data Field : Type 0 where
@@ -32,7 +32,7 @@ standing columns = record { place = columns.start; length = columns.end - column
 abbrev pub header_of : Header
 header_of = record { classification = standing (at classification); date = standing (at date); code = standing (at code) }
 
-abbrev pub got_header : Given → GotHeader
+abbrev pub got_header : Given → Got Header
 got_header g = record { value = header_of; faults = table_noted g header_table no_faults }
 
 abbrev pub header_fields : Header → List Row

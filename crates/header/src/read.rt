@@ -5,14 +5,8 @@ ghost use Rattle.header.specs.Header as specs;
 
 use crate::record::Header;
 use line::columns::Columns;
-use line::fault::Faults;
+use line::fault::{Faults, Got};
 use line::text::Text;
-
-#[derive(Clone, Copy)]
-pub struct GotHeader {
-    pub value: Header,
-    pub faults: Faults,
-}
 
 // The columns as they stand.
 fn as_they_stand(at: Columns) -> Text
@@ -22,7 +16,7 @@ fn as_they_stand(at: Columns) -> Text
 }
 
 // A HEADER that reaches its last column.
-pub fn lex_header() -> GotHeader
+pub fn lex_header() -> Got<Header>
     ensures { result ≡ specs.got_header (alone []) }
 {
     let header = Header::new(
@@ -30,7 +24,7 @@ pub fn lex_header() -> GotHeader
         as_they_stand(Header::DATE),
         as_they_stand(Header::CODE),
     );
-    GotHeader {
+    Got {
         value: header,
         faults: Faults::none(),
     }

@@ -12,24 +12,9 @@ pub fn header_rows(header: Header) -> Rows
     let classification = header.classification;
     let date = header.date;
     let code = header.code;
-    let none = Row::NONE;
-    let list = [
+    Rows::of([
         Row(Header::CLASSIFICATION.start, Value::Words(classification)),
         Row(Header::DATE.start, Value::Words(date)),
         Row(Header::CODE.start, Value::Words(code)),
-        none,
-        none,
-        none,
-        none,
-        none,
-        none,
-        none,
-        none,
-        none,
-        none,
-        none,
-        none,
-        none,
-    ];
-    Rows { list }
+    ])
 }

@@ -7,11 +7,11 @@ use Rattle.line.specs.Columns.{◌⋯◌, in_row}
 use Rattle.line.specs.Faults.{no_faults}
 use Rattle.line.specs.Given.{Given}
 use Rattle.line.specs.declared.columns.Columns.{Columns}
+use Rattle.line.specs.declared.fault.Got.{Got}
 use Rattle.row.specs.Rows.{◌is◌}
 use Rattle.row.specs.declared.Row.{Row}
 use Rattle.row.specs.declared.Value.TheVariants.{Unsigned}
 use Rattle.master.specs.declared.record.Master.{Master}
-use Rattle.master.specs.declared.read.GotMaster.{GotMaster}
 
 abbrev pub master_table : List Entry
 master_table = map u (in_row 12 5 10)
@@ -36,7 +36,7 @@ master_of l = record {
   seq = unsigned_at l (at 11);
 }
 
-abbrev pub got_master : Given → GotMaster
+abbrev pub got_master : Given → Got Master
 got_master g = record { value = master_of g.line; faults = table_noted g master_table no_faults }
 
 abbrev pub master_fields : Master → List Row

@@ -5,15 +5,9 @@ ghost use Rattle.master.specs.Master as specs;
 
 use crate::record::Master;
 use field::number_field::unsigned;
-use line::fault::Faults;
+use line::fault::{Faults, Got};
 
-#[derive(Clone, Copy)]
-pub struct GotMaster {
-    pub value: Master,
-    pub faults: Faults,
-}
-
-pub fn lex_master(line: &[u8]) -> GotMaster
+pub fn lex_master(line: &[u8]) -> Got<Master>
     ensures { result ≡ specs.got_master (alone line.now) }
 {
     let remark = unsigned(line, Master::REMARK, Faults::none());
@@ -43,7 +37,7 @@ pub fn lex_master(line: &[u8]) -> GotMaster
         seq.value,
     );
     let faults = seq.faults;
-    GotMaster {
+    Got {
         value: master,
         faults,
     }

@@ -9,8 +9,7 @@ use row::{Row, Rows, Value};
 pub fn master_rows(master: Master) -> Rows
     ensures { result ≡ rows_of (master_fields master) }
 {
-    let none = Row::NONE;
-    let list = [
+    Rows::of([
         Row(Master::REMARK.start, Value::Unsigned(master.remark)),
         Row(Master::EMPTY.start, Value::Unsigned(master.empty)),
         Row(Master::HET.start, Value::Unsigned(master.het)),
@@ -23,10 +22,5 @@ pub fn master_rows(master: Master) -> Rows
         Row(Master::TER.start, Value::Unsigned(master.ter)),
         Row(Master::CONNECT.start, Value::Unsigned(master.connect)),
         Row(Master::SEQ.start, Value::Unsigned(master.seq)),
-        none,
-        none,
-        none,
-        none,
-    ];
-    Rows { list }
+    ])
 }

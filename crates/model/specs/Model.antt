@@ -7,13 +7,13 @@ use Rattle.line.specs.Columns.{◌⋯◌}
 use Rattle.line.specs.Faults.{no_faults}
 use Rattle.line.specs.Given.{Given}
 use Rattle.line.specs.declared.columns.Columns.{Columns}
+use Rattle.line.specs.declared.fault.Got.{Got}
 use Rattle.line.specs.declared.options.Mode.{Mode}
 use Rattle.line.specs.declared.options.Mode.TheVariants.{Crate, WwPdb}
 use Rattle.row.specs.Rows.{◌is◌}
 use Rattle.row.specs.declared.Row.{Row}
 use Rattle.row.specs.declared.Value.TheVariants.{Unsigned}
 use Rattle.model.specs.declared.record.Model.{Model}
-use Rattle.model.specs.declared.read.GotModel.{GotModel}
 
 -- the columns by name, for the record and its row; the table has them in numbers
 abbrev pub number_from : ℕ
@@ -34,7 +34,7 @@ number_by WwPdb l = unsigned_at l serial_at
 abbrev pub model_of : Mode → List ℕ → Model
 model_of mode l = record { number = number_by mode l; mode = mode }
 
-abbrev pub got_model : Given → GotModel
+abbrev pub got_model : Given → Got Model
 got_model g =
     let mode = g.options.mode in
     record { value = model_of mode g.line; faults = table_noted g (model_table mode) no_faults }

@@ -5,28 +5,22 @@ ghost use Rattle.model.specs.Model as specs;
 
 use crate::record::Model;
 use field::number_field::{GotUnsigned, unsigned, unsigned_from};
-use line::fault::Faults;
+use line::fault::{Faults, Got};
 use line::options::Mode;
 
-#[derive(Clone, Copy)]
-pub struct GotModel {
-    pub value: Model,
-    pub faults: Faults,
-}
-
-impl GotModel {
+impl Got {
     fn of(number: GotUnsigned, mode: Mode) -> Self
         ensures { result ≡ record { value = record { number = number.value; mode = mode }; faults = number.faults } }
     {
         let faults = number.faults;
-        GotModel {
+        Got {
             value: Model::new(number.value, mode),
             faults,
         }
     }
 }
 
-pub fn lex_model(line: &[u8], mode: Mode) -> GotModel
+pub fn lex_model(line: &[u8], mode: Mode) -> Got<Model>
     ensures { result ≡ specs.got_model (in_mode mode line.now) }
 {
     let none = Faults::none();

@@ -11,24 +11,7 @@ pub fn model_rows(model: Model) -> Rows
 {
     let mode = model.mode;
     let column = Model::column(mode);
-    let none = Row::NONE;
-    let list = [
+    Rows::of([
         Row(column, Value::Unsigned(model.number)),
-        none,
-        none,
-        none,
-        none,
-        none,
-        none,
-        none,
-        none,
-        none,
-        none,
-        none,
-        none,
-        none,
-        none,
-        none,
-    ];
-    Rows { list }
+    ])
 }

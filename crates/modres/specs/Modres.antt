@@ -8,11 +8,11 @@ use Rattle.line.specs.Columns.{◌⋯◌, only}
 use Rattle.line.specs.Faults.{no_faults}
 use Rattle.line.specs.Given.{Given}
 use Rattle.line.specs.declared.columns.Columns.{Columns}
+use Rattle.line.specs.declared.fault.Got.{Got}
 use Rattle.row.specs.Rows.{◌is◌}
 use Rattle.row.specs.declared.Row.{Row}
 use Rattle.row.specs.declared.Value.TheVariants.{Signed, Words, One}
 use Rattle.modres.specs.declared.record.Modres.{Modres}
-use Rattle.modres.specs.declared.read.GotModres.{GotModres}
 
 -- the columns by name, for the record and its rows; the table has them in numbers
 pub data Field : Type 0 where
@@ -43,7 +43,7 @@ modres_of l = record {
   comment = text_from l comment_from;
 }
 
-abbrev pub got_modres : Given → GotModres
+abbrev pub got_modres : Given → Got Modres
 got_modres g = record { value = modres_of g.line; faults = table_noted g modres_table no_faults }
 
 abbrev pub modres_fields : Modres → List Row

@@ -6,15 +6,9 @@ ghost use Rattle.modres.specs.Modres as specs;
 use crate::record::Modres;
 use field::number_field::signed;
 use field::text_field::{character, optional, text, text_from};
-use line::fault::Faults;
+use line::fault::{Faults, Got};
 
-#[derive(Clone, Copy)]
-pub struct GotModres {
-    pub value: Modres,
-    pub faults: Faults,
-}
-
-pub fn lex_modres(line: &[u8]) -> GotModres
+pub fn lex_modres(line: &[u8]) -> Got<Modres>
     ensures { result ≡ specs.got_modres (alone line.now) }
 {
     let code = text(line, Modres::CODE, Faults::none());
@@ -36,7 +30,7 @@ pub fn lex_modres(line: &[u8]) -> GotModres
         comment,
     );
     let faults = standard.faults;
-    GotModres {
+    Got {
         value: modres,
         faults,
     }

@@ -15,8 +15,7 @@ pub fn modres_rows(modres: Modres) -> Rows
     let insertion = modres.insertion;
     let standard = modres.standard;
     let comment = modres.comment;
-    let none = Row::NONE;
-    let list = [
+    Rows::of([
         Row(Modres::CODE.start, Value::Words(code)),
         Row(Modres::RESIDUE.start, Value::Words(residue)),
         Row(Modres::CHAIN, Value::One(chain)),
@@ -24,15 +23,5 @@ pub fn modres_rows(modres: Modres) -> Rows
         Row(Modres::INSERTION, Value::One(insertion)),
         Row(Modres::STANDARD.start, Value::Words(standard)),
         Row(Modres::COMMENT, Value::Words(comment)),
-        none,
-        none,
-        none,
-        none,
-        none,
-        none,
-        none,
-        none,
-        none,
-    ];
-    Rows { list }
+    ])
 }

@@ -9,11 +9,11 @@ use Rattle.line.specs.Columns.{◌⋯◌}
 use Rattle.line.specs.Faults.{no_faults}
 use Rattle.line.specs.Given.{Given}
 use Rattle.line.specs.declared.columns.Columns.{Columns}
+use Rattle.line.specs.declared.fault.Got.{Got}
 use Rattle.row.specs.Rows.{◌is◌}
 use Rattle.row.specs.declared.Row.{Row}
 use Rattle.row.specs.declared.Value.TheVariants.{Unsigned, Words}
 use Rattle.remark.specs.declared.record.Remark.{Remark}
-use Rattle.remark.specs.declared.read.GotRemark.{GotRemark}
 
 -- the columns by name, for the record and its rows; the table has them in numbers
 abbrev pub number_at : Columns
@@ -28,7 +28,7 @@ remark_table = u (7 ⋯ 10) ∷ known (7 ⋯ 10) ∷ t-end 11 ∷ []
 abbrev pub remark_of : List ℕ → Remark
 remark_of l = record { number = unsigned_at l number_at; text = end_text_from l text_from }
 
-abbrev pub got_remark : Given → GotRemark
+abbrev pub got_remark : Given → Got Remark
 got_remark g = record { value = remark_of g.line; faults = table_noted g remark_table no_faults }
 
 abbrev pub remark_fields : Remark → List Row

@@ -10,24 +10,8 @@ pub fn remark_rows(remark: Remark) -> Rows
     ensures { result ≡ rows_of (remark_fields remark) }
 {
     let text = remark.text;
-    let none = Row::NONE;
-    let list = [
+    Rows::of([
         Row(Remark::NUMBER.start, Value::Unsigned(remark.number)),
         Row(Remark::TEXT, Value::Words(text)),
-        none,
-        none,
-        none,
-        none,
-        none,
-        none,
-        none,
-        none,
-        none,
-        none,
-        none,
-        none,
-        none,
-        none,
-    ];
-    Rows { list }
+    ])
 }

@@ -9,6 +9,7 @@ use Rattle.line.specs.Faults.{no_faults}
 use Rattle.line.specs.Given.{Given}
 use Rattle.line.specs.declared.columns.Columns.{Columns}
 use Rattle.line.specs.declared.fault.Faults.{Faults}
+use Rattle.line.specs.declared.fault.Got.{Got}
 use Rattle.row.specs.Rows.{◌is◌}
 use Rattle.row.specs.declared.Row.{Row}
 use Rattle.row.specs.declared.Value.{Value}
@@ -16,8 +17,6 @@ use Rattle.row.specs.declared.Value.TheVariants.{Signed, Words, One, Nothing}
 use Rattle.seqadv.specs.declared.record.Seqadv.{Seqadv}
 use Rattle.seqadv.specs.declared.record.Target.{Target}
 use Rattle.seqadv.specs.declared.record.Target.TheVariants.{Residue, NoResidue}
-use Rattle.seqadv.specs.declared.read.GotSeqadv.{GotSeqadv}
-use Rattle.seqadv.specs.declared.read.GotTarget.{GotTarget}
 
 -- the columns by name, for the record and its rows; the table has them in numbers
 pub data Field : Type 0 where
@@ -73,10 +72,10 @@ seqadv_of l = record {
   comment = text_from l comment_from;
 }
 
-abbrev pub got_target : List ℕ → Faults → GotTarget
+abbrev pub got_target : List ℕ → Faults → Got Target
 got_target l fs = record { value = target_of (has_target l) l; faults = line_noted l (target_table (has_target l)) fs }
 
-abbrev pub got_seqadv : Given → GotSeqadv
+abbrev pub got_seqadv : Given → Got Seqadv
 got_seqadv g = record { value = seqadv_of g.line; faults = table_noted g (seqadv_table (has_target g.line)) no_faults }
 
 -- the residue of the database, if the line names one

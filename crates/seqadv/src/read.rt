@@ -6,19 +6,7 @@ ghost use Rattle.seqadv.specs.Seqadv as specs;
 use crate::record::{Seqadv, Target};
 use field::number_field::signed;
 use field::text_field::{optional, text, text_from};
-use line::fault::Faults;
-
-#[derive(Clone, Copy)]
-pub struct GotSeqadv {
-    pub value: Seqadv,
-    pub faults: Faults,
-}
-
-#[derive(Clone, Copy)]
-pub struct GotTarget {
-    pub value: Target,
-    pub faults: Faults,
-}
+use line::fault::{Faults, Got};
 
 fn is_blank(part: &[u8]) -> bool
     ensures { result ≡ specs.blanks part.now }
@@ -35,11 +23,11 @@ fn is_blank(part: &[u8]) -> bool
 }
 
 // The residue of the database, where its columns aren't all blank.
-fn lex_target(line: &[u8], faults: Faults) -> GotTarget
+fn lex_target(line: &[u8], faults: Faults) -> Got<Target>
     ensures { result ≡ specs.got_target line.now faults }
 {
     if is_blank(Seqadv::TARGET.part(line)) {
-        return GotTarget {
+        return Got {
             value: Target::NoResidue,
             faults,
         };
@@ -52,10 +40,10 @@ fn lex_target(line: &[u8], faults: Faults) -> GotTarget
         number: number.value,
     };
     let faults = number.faults;
-    GotTarget { value, faults }
+    Got { value, faults }
 }
 
-pub fn lex_seqadv(line: &[u8]) -> GotSeqadv
+pub fn lex_seqadv(line: &[u8]) -> Got<Seqadv>
     ensures { result ≡ specs.got_seqadv (alone line.now) }
 {
     let code = text(line, Seqadv::CODE, Faults::none());
@@ -81,7 +69,7 @@ pub fn lex_seqadv(line: &[u8]) -> GotSeqadv
         comment,
     );
     let faults = target.faults;
-    GotSeqadv {
+    Got {
         value: seqadv,
         faults,
     }

@@ -37,8 +37,7 @@ pub fn seqadv_rows(seqadv: Seqadv) -> Rows
     let comment = seqadv.comment;
     let name = target_name(target);
     let number = target_number(target);
-    let none = Row::NONE;
-    let list = [
+    Rows::of([
         Row(Seqadv::CODE.start, Value::Words(code)),
         Row(Seqadv::RESIDUE.start, Value::Words(residue)),
         Row(Seqadv::CHAIN.start, Value::Words(chain)),
@@ -49,12 +48,5 @@ pub fn seqadv_rows(seqadv: Seqadv) -> Rows
         Row(Seqadv::TARGET_NAME.start, name),
         Row(Seqadv::TARGET_NUMBER.start, number),
         Row(Seqadv::COMMENT, Value::Words(comment)),
-        none,
-        none,
-        none,
-        none,
-        none,
-        none,
-    ];
-    Rows { list }
+    ])
 }

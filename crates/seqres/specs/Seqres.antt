@@ -9,12 +9,12 @@ use Rattle.line.specs.Columns.{◌⋯◌, only}
 use Rattle.line.specs.Faults.{no_faults}
 use Rattle.line.specs.Given.{Given}
 use Rattle.line.specs.declared.columns.Columns.{Columns}
+use Rattle.line.specs.declared.fault.Got.{Got}
 use Rattle.line.specs.declared.text.Text.{Text}
 use Rattle.row.specs.Rows.{◌is◌}
 use Rattle.row.specs.declared.Row.{Row}
 use Rattle.row.specs.declared.Value.TheVariants.{Unsigned, Words, One, Nothing}
 use Rattle.seqres.specs.declared.record.Seqres.{Seqres}
-use Rattle.seqres.specs.declared.read.GotSeqres.{GotSeqres}
 
 -- the columns by name, for the record and its rows; the table has them in numbers
 pub data Field : Type 0 where
@@ -54,7 +54,7 @@ seqres_of l = record {
   triples = triples_of l;
 }
 
-abbrev pub got_seqres : Given → GotSeqres
+abbrev pub got_seqres : Given → Got Seqres
 got_seqres g = record { value = seqres_of g.line; faults = table_noted g seqres_table no_faults }
 
 abbrev pub triple_text : ℕ → Text

@@ -6,13 +6,7 @@ ghost use Rattle.seqres.specs.Seqres as specs;
 use crate::record::Seqres;
 use field::number_field::unsigned;
 use field::text_field::character;
-use line::fault::Faults;
-
-#[derive(Clone, Copy)]
-pub struct GotSeqres {
-    pub value: Seqres,
-    pub faults: Faults,
-}
+use line::fault::{Faults, Got};
 
 // Whether three blanks stand at a column, all three in the line.
 fn is_blank_triple(line: &[u8], at: usize) -> bool
@@ -47,7 +41,7 @@ fn count_triples(line: &[u8]) -> usize
     n
 }
 
-pub fn lex_seqres(line: &[u8]) -> GotSeqres
+pub fn lex_seqres(line: &[u8]) -> Got<Seqres>
     ensures { result ≡ specs.got_seqres (alone line.now) }
 {
     let serial = unsigned(line, Seqres::SERIAL, Faults::none());
@@ -56,7 +50,7 @@ pub fn lex_seqres(line: &[u8]) -> GotSeqres
     let of = chain.value;
     let seqres = Seqres::new(serial.value, of, residues.value, count_triples(line));
     let faults = residues.faults;
-    GotSeqres {
+    Got {
         value: seqres,
         faults,
     }

@@ -23,7 +23,7 @@ pub fn seqres_rows(seqres: Seqres) -> Rows
     ensures { result ≡ rows_of (seqres_fields seqres) }
 {
     let chain = seqres.chain;
-    let list = [
+    Rows::of([
         Row(Seqres::SERIAL.start, Value::Unsigned(seqres.serial)),
         Row(Seqres::CHAIN, Value::One(chain)),
         Row(Seqres::RESIDUES.start, Value::Unsigned(seqres.residues)),
@@ -40,6 +40,5 @@ pub fn seqres_rows(seqres: Seqres) -> Rows
         triple_row(seqres, 10),
         triple_row(seqres, 11),
         triple_row(seqres, 12),
-    ];
-    Rows { list }
+    ])
 }

@@ -9,6 +9,7 @@ use Rattle.line.specs.Faults.{no_faults}
 use Rattle.line.specs.Given.{Given, taking}
 use Rattle.line.specs.declared.columns.Columns.{Columns}
 use Rattle.line.specs.declared.fault.Faults.{Faults}
+use Rattle.line.specs.declared.fault.Got.{Got}
 use Rattle.row.specs.Rows.{◌is◌}
 use Rattle.row.specs.declared.Row.{Row}
 use Rattle.row.specs.declared.Value.{Value}
@@ -17,9 +18,7 @@ use Rattle.ssbond.specs.declared.record.Residue.{Residue}
 use Rattle.ssbond.specs.declared.record.Tail.{Tail}
 use Rattle.ssbond.specs.declared.record.Tail.TheVariants.{Bond, NoTail}
 use Rattle.ssbond.specs.declared.record.SSBond.{SSBond}
-use Rattle.ssbond.specs.declared.read.GotResidue.{GotResidue}
 use Rattle.ssbond.specs.declared.read.GotTail.{GotTail}
-use Rattle.ssbond.specs.declared.read.GotSSBond.{GotSSBond}
 
 -- the columns by name, for the record and its rows; the table has them in numbers
 -- the residues on the two sides of a bond
@@ -81,7 +80,7 @@ ssbond_of on l = record {
 }
 
 -- one side, read from columns that are handed over
-abbrev pub got_residue : List ℕ → Columns → ℕ → Columns → ℕ → Faults → GotResidue
+abbrev pub got_residue : List ℕ → Columns → ℕ → Columns → ℕ → Faults → Got Residue
 got_residue l name_at chainAt number_at insertionAt fs = record {
   value = record {
     name = text_at l name_at;
@@ -96,7 +95,7 @@ abbrev pub got_tail : Bool → List ℕ → Faults → GotTail
 got_tail on l fs =
     record { value = tail_of (has_tail l) on l; places = tail_places (has_tail l) on l; faults = table_noted (taking on l) (tail_table (has_tail l)) fs }
 
-abbrev pub got_ssbond : Given → GotSSBond
+abbrev pub got_ssbond : Given → Got SSBond
 got_ssbond g =
     record { value = ssbond_of g.options.exponents g.line; faults = table_noted g (ssbond_table (has_tail g.line)) no_faults }
 

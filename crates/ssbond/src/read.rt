@@ -7,19 +7,7 @@ use crate::record::{Residue, SSBond, Tail};
 use field::number_field::{real, signed};
 use field::text_field::{character, optional, text};
 use line::columns::Columns;
-use line::fault::Faults;
-
-#[derive(Clone, Copy)]
-pub struct GotSSBond {
-    pub value: SSBond,
-    pub faults: Faults,
-}
-
-#[derive(Clone, Copy)]
-pub struct GotResidue {
-    pub value: Residue,
-    pub faults: Faults,
-}
+use line::fault::{Faults, Got};
 
 #[derive(Clone, Copy)]
 pub struct GotTail {
@@ -36,7 +24,7 @@ fn lex_residue(
     number: Columns,
     insertion: u16,
     faults: Faults,
-) -> GotResidue
+) -> Got<Residue>
     ensures { result ≡ specs.got_residue line.now name chain number insertion faults }
 {
     let name = text(line, name, faults);
@@ -47,7 +35,7 @@ fn lex_residue(
     let inserted = insertion.value;
     let value = Residue::new(name.value, of, number.value, inserted);
     let faults = insertion.faults;
-    GotResidue { value, faults }
+    Got { value, faults }
 }
 
 // The operators and the length, in a line that reaches the length's last column.
@@ -79,7 +67,7 @@ fn lex_tail(line: &[u8], exponents: bool, faults: Faults) -> GotTail
     }
 }
 
-pub fn lex_ssbond(line: &[u8], exponents: bool) -> GotSSBond
+pub fn lex_ssbond(line: &[u8], exponents: bool) -> Got<SSBond>
     ensures { result ≡ specs.got_ssbond (taking exponents line.now) }
 {
     let first = lex_residue(
@@ -102,7 +90,7 @@ pub fn lex_ssbond(line: &[u8], exponents: bool) -> GotSSBond
     let bond = tail.value;
     let ssbond = SSBond::new(first.value, second.value, bond, tail.places);
     let faults = tail.faults;
-    GotSSBond {
+    Got {
         value: ssbond,
         faults,
     }

@@ -60,8 +60,7 @@ pub fn ssbond_rows(ssbond: SSBond) -> Rows
     let operator = tail_first(tail);
     let other_operator = tail_second(tail);
     let length = tail_length(tail, ssbond.places);
-    let none = Row::NONE;
-    let list = [
+    Rows::of([
         Row(SSBond::NAME.start, Value::Words(name)),
         Row(SSBond::CHAIN, Value::One(chain)),
         Row(SSBond::NUMBER.start, Value::Signed(first.number)),
@@ -73,11 +72,5 @@ pub fn ssbond_rows(ssbond: SSBond) -> Rows
         Row(SSBond::OPERATOR.start, operator),
         Row(SSBond::OTHER_OPERATOR.start, other_operator),
         Row(SSBond::LENGTH.start, length),
-        none,
-        none,
-        none,
-        none,
-        none,
-    ];
-    Rows { list }
+    ])
 }

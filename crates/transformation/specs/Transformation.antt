@@ -7,6 +7,7 @@ use Rattle.line.specs.Columns.{◌⋯◌}
 use Rattle.line.specs.Faults.{no_faults}
 use Rattle.line.specs.Given.{Given}
 use Rattle.line.specs.declared.columns.Columns.{Columns}
+use Rattle.line.specs.declared.fault.Got.{Got}
 use Rattle.row.specs.Rows.{◌is◌}
 use Rattle.row.specs.declared.Row.{Row}
 use Rattle.row.specs.declared.Value.TheVariants.{Unsigned, Real, Flag}
@@ -15,9 +16,6 @@ use Rattle.transformation.specs.declared.record.RowPlaces.{RowPlaces}
 use Rattle.transformation.specs.declared.record.Scale.{Scale}
 use Rattle.transformation.specs.declared.record.OrigX.{OrigX}
 use Rattle.transformation.specs.declared.record.MtriX.{MtriX}
-use Rattle.transformation.specs.declared.read.GotScale.{GotScale}
-use Rattle.transformation.specs.declared.read.GotOrigX.{GotOrigX}
-use Rattle.transformation.specs.declared.read.GotMtriX.{GotMtriX}
 
 -- the columns by name, for the records and their rows; the tables have them in numbers
 pub data Field : Type 0 where
@@ -70,13 +68,13 @@ mtrix_of row on l = record {
   given = given_of l;
 }
 
-abbrev pub got_scale : ℕ → Given → GotScale
+abbrev pub got_scale : ℕ → Given → Got Scale
 got_scale row g = record { value = scale_of row g.options.exponents g.line; faults = table_noted g transformation_table no_faults }
 
-abbrev pub got_orig_x : ℕ → Given → GotOrigX
+abbrev pub got_orig_x : ℕ → Given → Got OrigX
 got_orig_x row g = record { value = origx_of row g.options.exponents g.line; faults = table_noted g transformation_table no_faults }
 
-abbrev pub got_mtri_x : ℕ → Given → GotMtriX
+abbrev pub got_mtri_x : ℕ → Given → Got MtriX
 got_mtri_x row g = record { value = mtrix_of row g.options.exponents g.line; faults = table_noted g mtrix_table no_faults }
 
 abbrev pub transformation_fields : Transformation → RowPlaces → List Row

@@ -6,25 +6,7 @@ ghost use Rattle.transformation.specs.Transformation as specs;
 
 use crate::record::{MtriX, OrigX, RowPlaces, Scale, Transformation};
 use field::number_field::{real, unsigned};
-use line::fault::Faults;
-
-#[derive(Clone, Copy)]
-pub struct GotScale {
-    pub value: Scale,
-    pub faults: Faults,
-}
-
-#[derive(Clone, Copy)]
-pub struct GotOrigX {
-    pub value: OrigX,
-    pub faults: Faults,
-}
-
-#[derive(Clone, Copy)]
-pub struct GotMtriX {
-    pub value: MtriX,
-    pub faults: Faults,
-}
+use line::fault::{Faults, Got};
 
 #[derive(Clone, Copy)]
 pub struct GotTransformation {
@@ -55,25 +37,25 @@ fn lex_transformation(line: &[u8], exponents: bool, faults: Faults) -> GotTransf
     }
 }
 
-pub fn lex_scale(line: &[u8], row: usize, exponents: bool) -> GotScale
+pub fn lex_scale(line: &[u8], row: usize, exponents: bool) -> Got<Scale>
     ensures { result ≡ specs.got_scale row (taking exponents line.now) }
 {
     let values = lex_transformation(line, exponents, Faults::none());
     let scale = Scale::new(row, values.value, values.places);
     let faults = values.faults;
-    GotScale {
+    Got {
         value: scale,
         faults,
     }
 }
 
-pub fn lex_origx(line: &[u8], row: usize, exponents: bool) -> GotOrigX
+pub fn lex_origx(line: &[u8], row: usize, exponents: bool) -> Got<OrigX>
     ensures { result ≡ specs.got_orig_x row (taking exponents line.now) }
 {
     let values = lex_transformation(line, exponents, Faults::none());
     let origx = OrigX::new(row, values.value, values.places);
     let faults = values.faults;
-    GotOrigX {
+    Got {
         value: origx,
         faults,
     }
@@ -89,7 +71,7 @@ fn is_given(line: &[u8]) -> bool
     line[MtriX::GIVEN] == 49
 }
 
-pub fn lex_mtrix(line: &[u8], row: usize, exponents: bool) -> GotMtriX
+pub fn lex_mtrix(line: &[u8], row: usize, exponents: bool) -> Got<MtriX>
     ensures { result ≡ specs.got_mtri_x row (taking exponents line.now) }
 {
     let serial = unsigned(line, MtriX::SERIAL, Faults::none());
@@ -102,7 +84,7 @@ pub fn lex_mtrix(line: &[u8], row: usize, exponents: bool) -> GotMtriX
         is_given(line),
     );
     let faults = values.faults;
-    GotMtriX {
+    Got {
         value: mtrix,
         faults,
     }

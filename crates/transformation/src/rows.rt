@@ -10,26 +10,12 @@ use row::{Row, Rows, Value};
 fn transformation_rows(values: Transformation, places: RowPlaces) -> Rows
     ensures { result ≡ rows_of (transformation_fields values places) }
 {
-    let none = Row::NONE;
-    let list = [
+    Rows::of([
         Row(Transformation::A.start, Value::Real(values.a, places.a)),
         Row(Transformation::B.start, Value::Real(values.b, places.b)),
         Row(Transformation::C.start, Value::Real(values.c, places.c)),
         Row(Transformation::D.start, Value::Real(values.d, places.d)),
-        none,
-        none,
-        none,
-        none,
-        none,
-        none,
-        none,
-        none,
-        none,
-        none,
-        none,
-        none,
-    ];
-    Rows { list }
+    ])
 }
 
 pub fn scale_rows(scale: Scale) -> Rows
@@ -49,24 +35,12 @@ pub fn mtrix_rows(mtrix: MtriX) -> Rows
 {
     let values = mtrix.values;
     let places = mtrix.places;
-    let none = Row::NONE;
-    let list = [
+    Rows::of([
         Row(MtriX::SERIAL.start, Value::Unsigned(mtrix.serial)),
         Row(Transformation::A.start, Value::Real(values.a, places.a)),
         Row(Transformation::B.start, Value::Real(values.b, places.b)),
         Row(Transformation::C.start, Value::Real(values.c, places.c)),
         Row(Transformation::D.start, Value::Real(values.d, places.d)),
         Row(MtriX::GIVEN as u16, Value::Flag(mtrix.given)),
-        none,
-        none,
-        none,
-        none,
-        none,
-        none,
-        none,
-        none,
-        none,
-        none,
-    ];
-    Rows { list }
+    ])
 }
