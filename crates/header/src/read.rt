@@ -19,13 +19,12 @@ fn as_they_stand(at: Columns) -> Text
 pub fn lex_header() -> Got<Header>
     ensures { result ≡ specs.got_header (alone []) }
 {
-    let header = Header::new(
-        as_they_stand(Header::CLASSIFICATION),
-        as_they_stand(Header::DATE),
-        as_they_stand(Header::CODE),
-    );
     Got {
-        value: header,
+        value: Header::new(
+            as_they_stand(Header::CLASSIFICATION),
+            as_they_stand(Header::DATE),
+            as_they_stand(Header::CODE),
+        ),
         faults: Faults::none(),
     }
 }

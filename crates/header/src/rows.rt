@@ -9,12 +9,12 @@ use row::{Row, Rows, Value};
 pub fn header_rows(header: Header) -> Rows
     ensures { result ≡ rows_of (header_fields header) }
 {
-    let classification = header.classification;
-    let date = header.date;
-    let code = header.code;
     Rows::of([
-        Row(Header::CLASSIFICATION.start, Value::Words(classification)),
-        Row(Header::DATE.start, Value::Words(date)),
-        Row(Header::CODE.start, Value::Words(code)),
+        Row(
+            Header::CLASSIFICATION.start,
+            Value::Words(header.classification),
+        ),
+        Row(Header::DATE.start, Value::Words(header.date)),
+        Row(Header::CODE.start, Value::Words(header.code)),
     ])
 }
