@@ -9,9 +9,8 @@ use row::{Row, Rows, Value};
 pub fn remark_rows(remark: Remark) -> Rows
     ensures { result ≡ rows_of (remark_fields remark) }
 {
-    let text = remark.text;
     Rows::of([
         Row(Remark::NUMBER.start, Value::Unsigned(remark.number)),
-        Row(Remark::TEXT, Value::Words(text)),
+        Row(Remark::TEXT, Value::Words(remark.text)),
     ])
 }

@@ -1,5 +1,5 @@
 -- "SEQADV: T 7..11 12..15 16..17, I 18..22, C 22, T 24..28 29..38; if 39..48 isn't all blanks, T 39..42 and I 43..48; T 49..len."
-use Rattle.std.specs.Prelude.{ℕ, Bool, true, false, not, ◌&&◌, List, [], ◌∷◌, ◌++◌, eqb}
+use Rattle.std.specs.Prelude.{ℕ, Bool, true, false, not, ◌&&◌, Option, Some, None, List, [], ◌∷◌, ◌++◌, eqb}
 use Rattle.field.specs.Number.{signed_at}
 use Rattle.field.specs.Table.{Entry, table_noted, line_noted}
 use Rattle.field.specs.Table.Entry.{i, t, c?, t-rest}
@@ -16,7 +16,6 @@ use Rattle.row.specs.declared.Value.{Value}
 use Rattle.row.specs.declared.Value.TheVariants.{Signed, Words, One, Nothing}
 use Rattle.seqadv.specs.declared.record.Seqadv.{Seqadv}
 use Rattle.seqadv.specs.declared.record.Target.{Target}
-use Rattle.seqadv.specs.declared.record.Target.TheVariants.{Residue, NoResidue}
 
 -- the columns by name, for the record and its rows; the table has them in numbers
 pub data Field : Type 0 where
@@ -55,9 +54,9 @@ abbrev pub seqadv_table : Bool → List Entry
 seqadv_table named =
     t (7 ⋯ 11) ∷ t (12 ⋯ 15) ∷ t (16 ⋯ 17) ∷ i (18 ⋯ 22) ∷ c? (only 22) ∷ t (24 ⋯ 28) ∷ t (29 ⋯ 38) ∷ target_table named ++ t-rest 49 ∷ []
 
-abbrev pub target_of : Bool → List ℕ → Target
-target_of true l = Residue (text_at l (at name)) (signed_at l (at position))
-target_of false l = NoResidue
+abbrev pub target_of : Bool → List ℕ → Option Target
+target_of true l = Some (record { name = text_at l (at name); number = signed_at l (at position) })
+target_of false l = None
 
 abbrev pub seqadv_of : List ℕ → Seqadv
 seqadv_of l = record {
@@ -72,20 +71,20 @@ seqadv_of l = record {
   comment = text_from l comment_from;
 }
 
-abbrev pub got_target : List ℕ → Faults → Got Target
+abbrev pub got_target : List ℕ → Faults → Got (Option Target)
 got_target l fs = record { value = target_of (has_target l) l; faults = line_noted l (target_table (has_target l)) fs }
 
 abbrev pub got_seqadv : Given → Got Seqadv
 got_seqadv g = record { value = seqadv_of g.line; faults = table_noted g (seqadv_table (has_target g.line)) no_faults }
 
 -- the residue of the database, if the line names one
-abbrev pub target_name : Target → Value
-target_name (Residue text n) = Words text
-target_name NoResidue = Nothing
+abbrev pub target_name : Option Target → Value
+target_name (Some target) = Words target.name
+target_name None = Nothing
 
-abbrev pub target_number : Target → Value
-target_number (Residue text n) = Signed n
-target_number NoResidue = Nothing
+abbrev pub target_number : Option Target → Value
+target_number (Some target) = Signed target.number
+target_number None = Nothing
 
 abbrev pub seqadv_fields : Seqadv → List Row
 seqadv_fields v =

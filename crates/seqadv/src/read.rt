@@ -11,36 +11,29 @@ use line::fault::{Faults, Got};
 fn is_blank(part: &[u8]) -> bool
     ensures { result ≡ specs.blanks part.now }
 {
-    let mut i = 0;
-    while i < part.len() {
-        if part[i] == 32 {
-            i += 1;
-        } else {
-            return false;
-        }
-    }
-    true
+    part.iter().all(|b| *b == b' ')
 }
 
 // The residue of the database, where its columns aren't all blank.
-fn lex_target(line: &[u8], faults: Faults) -> Got<Target>
+fn lex_target(line: &[u8], faults: Faults) -> Got<Option<Target>>
     ensures { result ≡ specs.got_target line.now faults }
 {
     if is_blank(Seqadv::TARGET.part(line)) {
         return Got {
-            value: Target::NoResidue,
+            value: None,
             faults,
         };
     }
     let name = text(line, Seqadv::TARGET_NAME, faults);
     let number = signed(line, Seqadv::TARGET_NUMBER, name.faults);
-    let text = name.value;
-    let value = Target::Residue {
-        name: text,
+    let target = Target {
+        name: name.value,
         number: number.value,
     };
-    let faults = number.faults;
-    Got { value, faults }
+    Got {
+        value: Some(target),
+        faults: number.faults,
+    }
 }
 
 pub fn lex_seqadv(line: &[u8]) -> Got<Seqadv>
@@ -55,22 +48,19 @@ pub fn lex_seqadv(line: &[u8]) -> Got<Seqadv>
     let accession = text(line, Seqadv::ACCESSION, database.faults);
     let target = lex_target(line, accession.faults);
     let comment = text_from(line, Seqadv::COMMENT);
-    let inserted = insertion.value;
-    let other = target.value;
     let seqadv = Seqadv::new(
         code.value,
         residue.value,
         chain.value,
         number.value,
-        inserted,
+        insertion.value,
         database.value,
         accession.value,
-        other,
+        target.value,
         comment,
     );
-    let faults = target.faults;
     Got {
         value: seqadv,
-        faults,
+        faults: target.faults,
     }
 }

@@ -4,14 +4,14 @@ ghost use Rattle.std.specs.Prelude.{◌≡◌};
 use line::columns::Columns;
 use line::text::{Character, Text};
 
-// The residue of the database, if the line has one.
+// A residue of the database.
 #[derive(Clone, Copy)]
-pub enum Target {
-    Residue { name: Text, number: i64 },
-    NoResidue,
+pub struct Target {
+    pub name: Text,
+    pub number: i64,
 }
 
-// A SEQADV.
+// A SEQADV, with the residue of the database if the line names one.
 #[derive(Clone, Copy)]
 pub struct Seqadv {
     pub code: Text,
@@ -21,7 +21,7 @@ pub struct Seqadv {
     pub insertion: Character,
     pub database: Text,
     pub accession: Text,
-    pub target: Target,
+    pub target: Option<Target>,
     pub comment: Text,
 }
 
@@ -56,7 +56,7 @@ impl Seqadv {
         insertion: Character,
         database: Text,
         accession: Text,
-        target: Target,
+        target: Option<Target>,
         comment: Text,
     ) -> Self
         ensures { result ≡ record { code = code; residue = residue; chain = chain; number = number; insertion = insertion; database = database; accession = accession; target = target; comment = comment } }

@@ -1,5 +1,5 @@
 -- "SSBOND: T 11..14, C 15, I 17..21, C 21, T 25..28, C 29, I 31..35, C 35; if len is 78 or more, T 59..65 66..72, R 73..78."
-use Rattle.std.specs.Prelude.{ℕ, Bool, true, false, List, [], ◌∷◌, ◌++◌, length, leb}
+use Rattle.std.specs.Prelude.{ℕ, Bool, true, false, Option, Some, None, List, [], ◌∷◌, ◌++◌, length, leb}
 use Rattle.field.specs.Number.{signed_at, real_at, places_at, zero_real}
 use Rattle.field.specs.Table.{Entry, table_noted, line_noted}
 use Rattle.field.specs.Table.Entry.{i, r, t, c, c?}
@@ -15,10 +15,8 @@ use Rattle.row.specs.declared.Row.{Row}
 use Rattle.row.specs.declared.Value.{Value}
 use Rattle.row.specs.declared.Value.TheVariants.{Signed, Real, Words, One, Nothing}
 use Rattle.ssbond.specs.declared.record.Residue.{Residue}
-use Rattle.ssbond.specs.declared.record.Tail.{Tail}
-use Rattle.ssbond.specs.declared.record.Tail.TheVariants.{Bond, NoTail}
+use Rattle.ssbond.specs.declared.record.Bond.{Bond}
 use Rattle.ssbond.specs.declared.record.SSBond.{SSBond}
-use Rattle.ssbond.specs.declared.read.GotTail.{GotTail}
 
 -- the columns by name, for the record and its rows; the table has them in numbers
 -- the residues on the two sides of a bond
@@ -63,20 +61,23 @@ residue_of l s = record {
 }
 
 -- whether the distance may have an exponent is the option's
-abbrev pub tail_of : Bool → Bool → List ℕ → Tail
-tail_of true on l = Bond (text_at l (at (operator first))) (text_at l (at (operator second))) (real_at on l (at distance) zero_real)
-tail_of false on l = NoTail
+abbrev pub bond_of : Bool → List ℕ → Bond
+bond_of on l = record {
+  first = text_at l (at (operator first));
+  second = text_at l (at (operator second));
+  length = real_at on l (at distance) zero_real;
+  places = places_at on l (at distance);
+}
 
-abbrev pub tail_places : Bool → Bool → List ℕ → ℕ
-tail_places true on l = places_at on l (at distance)
-tail_places false on l = 0
+abbrev pub tail_of : Bool → Bool → List ℕ → Option Bond
+tail_of true on l = Some (bond_of on l)
+tail_of false on l = None
 
 abbrev pub ssbond_of : Bool → List ℕ → SSBond
 ssbond_of on l = record {
   first = residue_of l first;
   second = residue_of l second;
   tail = tail_of (has_tail l) on l;
-  places = tail_places (has_tail l) on l;
 }
 
 -- one side, read from columns that are handed over
@@ -91,26 +92,26 @@ got_residue l name_at chainAt number_at insertionAt fs = record {
   faults = line_noted l (t name_at ∷ c (only chainAt) ∷ i number_at ∷ c? (only insertionAt) ∷ []) fs;
 }
 
-abbrev pub got_tail : Bool → List ℕ → Faults → GotTail
+abbrev pub got_tail : Bool → List ℕ → Faults → Got (Option Bond)
 got_tail on l fs =
-    record { value = tail_of (has_tail l) on l; places = tail_places (has_tail l) on l; faults = table_noted (taking on l) (tail_table (has_tail l)) fs }
+    record { value = tail_of (has_tail l) on l; faults = table_noted (taking on l) (tail_table (has_tail l)) fs }
 
 abbrev pub got_ssbond : Given → Got SSBond
 got_ssbond g =
     record { value = ssbond_of g.options.exponents g.line; faults = table_noted g (ssbond_table (has_tail g.line)) no_faults }
 
 -- the symmetry operators and the bond's length, if the line has them
-abbrev pub tail_first : Tail → Value
-tail_first (Bond one other length) = Words one
-tail_first NoTail = Nothing
+abbrev pub tail_first : Option Bond → Value
+tail_first (Some bond) = Words bond.first
+tail_first None = Nothing
 
-abbrev pub tail_second : Tail → Value
-tail_second (Bond one other length) = Words other
-tail_second NoTail = Nothing
+abbrev pub tail_second : Option Bond → Value
+tail_second (Some bond) = Words bond.second
+tail_second None = Nothing
 
-abbrev pub tail_length : Tail → ℕ → Value
-tail_length (Bond one other length) places = Real length places
-tail_length NoTail places = Nothing
+abbrev pub tail_length : Option Bond → Value
+tail_length (Some bond) = Real bond.length bond.places
+tail_length None = Nothing
 
 abbrev pub residue_fields : Side → Residue → List Row
 residue_fields s v =
@@ -126,5 +127,5 @@ ssbond_fields v =
     ++ residue_fields second v.second
     ++ (at (operator first)).start is tail_first v.tail
     ∷ (at (operator second)).start is tail_second v.tail
-    ∷ (at distance).start is tail_length v.tail v.places
+    ∷ (at distance).start is tail_length v.tail
     ∷ []

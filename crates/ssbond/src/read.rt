@@ -3,18 +3,11 @@ ghost use Rattle.std.specs.Prelude.{◌≡◌};
 ghost use Rattle.line.specs.Given.{taking};
 ghost use Rattle.ssbond.specs.Ssbond as specs;
 
-use crate::record::{Residue, SSBond, Tail};
+use crate::record::{Bond, Residue, SSBond};
 use field::number_field::{real, signed};
 use field::text_field::{character, optional, text};
 use line::columns::Columns;
 use line::fault::{Faults, Got};
-
-#[derive(Clone, Copy)]
-pub struct GotTail {
-    pub value: Tail,
-    pub places: u8,
-    pub faults: Faults,
-}
 
 // One side of the bond.
 fn lex_residue(
@@ -31,39 +24,34 @@ fn lex_residue(
     let chain = character(line, chain, name.faults);
     let number = signed(line, number, chain.faults);
     let insertion = optional(line, insertion, number.faults);
-    let of = chain.value;
-    let inserted = insertion.value;
-    let value = Residue::new(name.value, of, number.value, inserted);
-    let faults = insertion.faults;
-    Got { value, faults }
+    Got {
+        value: Residue::new(name.value, chain.value, number.value, insertion.value),
+        faults: insertion.faults,
+    }
 }
 
 // The operators and the length, in a line that reaches the length's last column.
-fn lex_tail(line: &[u8], exponents: bool, faults: Faults) -> GotTail
+fn lex_tail(line: &[u8], exponents: bool, faults: Faults) -> Got<Option<Bond>>
     ensures { result ≡ specs.got_tail exponents line.now faults }
 {
     if line.len() < SSBond::LENGTH.end as usize {
-        return GotTail {
-            value: Tail::NoTail,
-            places: 0,
+        return Got {
+            value: None,
             faults,
         };
     }
     let first = text(line, SSBond::OPERATOR, faults);
     let second = text(line, SSBond::OTHER_OPERATOR, first.faults);
     let length = real(line, SSBond::LENGTH, 0.0, exponents, second.faults);
-    let one = first.value;
-    let other = second.value;
-    let value = Tail::Bond {
-        first: one,
-        second: other,
+    let bond = Bond {
+        first: first.value,
+        second: second.value,
         length: length.value,
-    };
-    let faults = length.faults;
-    GotTail {
-        value,
         places: length.places,
-        faults,
+    };
+    Got {
+        value: Some(bond),
+        faults: length.faults,
     }
 }
 
@@ -87,11 +75,8 @@ pub fn lex_ssbond(line: &[u8], exponents: bool) -> Got<SSBond>
         first.faults,
     );
     let tail = lex_tail(line, exponents, second.faults);
-    let bond = tail.value;
-    let ssbond = SSBond::new(first.value, second.value, bond, tail.places);
-    let faults = tail.faults;
     Got {
-        value: ssbond,
-        faults,
+        value: SSBond::new(first.value, second.value, tail.value),
+        faults: tail.faults,
     }
 }

@@ -26,24 +26,22 @@ impl Residue {
     }
 }
 
-// The symmetry operators and the bond's length, which only a line of 78 bytes or more has.
+// The symmetry operators and the bond's length. The places are those of the length: how many digits stood behind its point, 0 where it is its
+// default.
 #[derive(Clone, Copy)]
-pub enum Tail {
-    Bond {
-        first: Text,
-        second: Text,
-        length: f64,
-    },
-    NoTail,
+pub struct Bond {
+    pub first: Text,
+    pub second: Text,
+    pub length: f64,
+    pub places: u8,
 }
 
-// An SSBOND. The places are those of the length: how many digits stood behind its point, 0 where it is its default or not there.
+// An SSBOND. Only a line of 78 bytes or more has the tail.
 #[derive(Clone, Copy)]
 pub struct SSBond {
     pub first: Residue,
     pub second: Residue,
-    pub tail: Tail,
-    pub places: u8,
+    pub tail: Option<Bond>,
 }
 
 impl SSBond {
@@ -69,14 +67,13 @@ impl SSBond {
 
     pub const LENGTH: Columns = Columns { start: 73, end: 78 };
 
-    pub fn new(first: Residue, second: Residue, tail: Tail, places: u8) -> Self
-        ensures { result ≡ record { first = first; second = second; tail = tail; places = places } }
+    pub fn new(first: Residue, second: Residue, tail: Option<Bond>) -> Self
+        ensures { result ≡ record { first = first; second = second; tail = tail } }
     {
         SSBond {
             first,
             second,
             tail,
-            places,
         }
     }
 }
