@@ -36,9 +36,8 @@ pub fn lex_master(line: &[u8]) -> Got<Master>
         connect.value,
         seq.value,
     );
-    let faults = seq.faults;
     Got {
         value: master,
-        faults,
+        faults: seq.faults,
     }
 }

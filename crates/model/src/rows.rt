@@ -9,9 +9,6 @@ use row::{Row, Rows, Value};
 pub fn model_rows(model: Model) -> Rows
     ensures { result ≡ rows_of (model_fields model) }
 {
-    let mode = model.mode;
-    let column = Model::column(mode);
-    Rows::of([
-        Row(column, Value::Unsigned(model.number)),
-    ])
+    let column = Model::column(model.mode);
+    Rows::of([Row(column, Value::Unsigned(model.number))])
 }

@@ -18,20 +18,17 @@ pub fn lex_modres(line: &[u8]) -> Got<Modres>
     let insertion = optional(line, Modres::INSERTION, number.faults);
     let standard = text(line, Modres::STANDARD, insertion.faults);
     let comment = text_from(line, Modres::COMMENT);
-    let of = chain.value;
-    let inserted = insertion.value;
     let modres = Modres::new(
         code.value,
         residue.value,
-        of,
+        chain.value,
         number.value,
-        inserted,
+        insertion.value,
         standard.value,
         comment,
     );
-    let faults = standard.faults;
     Got {
         value: modres,
-        faults,
+        faults: standard.faults,
     }
 }

@@ -9,19 +9,13 @@ use row::{Row, Rows, Value};
 pub fn modres_rows(modres: Modres) -> Rows
     ensures { result ≡ rows_of (modres_fields modres) }
 {
-    let code = modres.code;
-    let residue = modres.residue;
-    let chain = modres.chain;
-    let insertion = modres.insertion;
-    let standard = modres.standard;
-    let comment = modres.comment;
     Rows::of([
-        Row(Modres::CODE.start, Value::Words(code)),
-        Row(Modres::RESIDUE.start, Value::Words(residue)),
-        Row(Modres::CHAIN, Value::One(chain)),
+        Row(Modres::CODE.start, Value::Words(modres.code)),
+        Row(Modres::RESIDUE.start, Value::Words(modres.residue)),
+        Row(Modres::CHAIN, Value::One(modres.chain)),
         Row(Modres::NUMBER.start, Value::Signed(modres.number)),
-        Row(Modres::INSERTION, Value::One(insertion)),
-        Row(Modres::STANDARD.start, Value::Words(standard)),
-        Row(Modres::COMMENT, Value::Words(comment)),
+        Row(Modres::INSERTION, Value::One(modres.insertion)),
+        Row(Modres::STANDARD.start, Value::Words(modres.standard)),
+        Row(Modres::COMMENT, Value::Words(modres.comment)),
     ])
 }

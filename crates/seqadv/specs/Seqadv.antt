@@ -79,11 +79,11 @@ got_seqadv g = record { value = seqadv_of g.line; faults = table_noted g (seqadv
 
 -- the residue of the database, if the line names one
 abbrev pub target_name : Option Target → Value
-target_name (Some target) = Words target.name
+target_name (Some other) = Words other.name
 target_name None = Nothing
 
 abbrev pub target_number : Option Target → Value
-target_number (Some target) = Signed target.number
+target_number (Some other) = Signed other.number
 target_number None = Nothing
 
 abbrev pub seqadv_fields : Seqadv → List Row
