@@ -15,6 +15,7 @@ fn is_blank(part: &[u8]) -> bool
 }
 
 // The residue of the database, where its columns aren't all blank.
+#[tactic(auto, unfolding(crate::specs::Seqadv::has_target))]
 fn lex_target(line: &[u8], faults: Faults) -> Got<Option<Target>>
     ensures { result ≡ specs.got_target line.now faults }
 {
