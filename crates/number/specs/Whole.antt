@@ -1,11 +1,7 @@
 -- "U: an optional `+` and one or more digits, at most 2^64-1. I: the same with `+` or `-`, within 64 bits."
-use Rattle.std.specs.Prelude.{ℕ, ◌+◌, ◌-◌, ◌*◌, ◌^◌, Bool, true, false, cond, ◌&&◌, ◌||◌, List, [], ◌∷◌, length, drop, leb, ltb, eqb, ℤ, pos, neg_ℤ}
+use Rattle.std.specs.Prelude.{ℕ, ◌+◌, ◌-◌, ◌*◌, ◌^◌, Bool, true, false, cond, ◌&&◌, ◌||◌, List, [], ◌∷◌, length, drop, leb, ltb, eqb, ℤ, pos, neg_ℤ, Option, Some, None}
 use Rattle.number.specs.Trim.{trimmed}
 use Rattle.number.specs.declared.whole.Run.{Run}
-use Rattle.number.specs.declared.whole.Unsigned.{Unsigned}
-use Rattle.number.specs.declared.whole.Unsigned.TheVariants.{U, NotU}
-use Rattle.number.specs.declared.whole.Signed.{Signed}
-use Rattle.number.specs.declared.whole.Signed.TheVariants.{I, NotI}
 
 -- bytes 48 to 57
 unfoldable pub digit : ℕ → Bool
@@ -45,11 +41,11 @@ unfoldable pub after_sign : List ℕ → List ℕ
 after_sign t = drop (cond (begins 43 t || begins 45 t) 1 0) t
 
 -- one or more digits, at most 2^64-1
-unfoldable pub digits_of : List ℕ → Unsigned
-digits_of t = cond (some_digits t && ltb (value_of t) (2 ^ 64)) (U (value_of t)) NotU
+unfoldable pub digits_of : List ℕ → Option ℕ
+digits_of t = cond (some_digits t && ltb (value_of t) (2 ^ 64)) (Some (value_of t)) None
 
 -- what a text says as U
-unfoldable pub unsigned_of : List ℕ → Unsigned
+unfoldable pub unsigned_of : List ℕ → Option ℕ
 unsigned_of t = digits_of (after_plus (trimmed t))
 
 -- 64 bits hold the numbers from -2^63 to 2^63-1
@@ -62,11 +58,11 @@ abbrev pub with_sign : Bool → ℕ → ℤ
 with_sign false n = pos n
 with_sign true n = neg_ℤ (pos n)
 
-unfoldable pub signed_digits : Bool → List ℕ → Signed
-signed_digits minus t = cond (some_digits t && leb (value_of t) (most minus)) (I (with_sign minus (value_of t))) NotI
+unfoldable pub signed_digits : Bool → List ℕ → Option ℤ
+signed_digits minus t = cond (some_digits t && leb (value_of t) (most minus)) (Some (with_sign minus (value_of t))) None
 
 -- what a text says as I
-unfoldable pub signed_of : List ℕ → Signed
+unfoldable pub signed_of : List ℕ → Option ℤ
 signed_of t = signed_digits (begins 45 (trimmed t)) (after_sign (trimmed t))
 
 -- ---- the words of the helpers
@@ -80,5 +76,5 @@ run_of m i [] = record { value = m; count = i }
 run_of m i (b ∷ t) = cond (joins m b) (run_of (joined m b) (i + 1) t) (record { value = m; count = i })
 
 -- a whole number below 2^64 as I, behind a minus or not
-unfoldable pub signed_from : Bool → ℕ → Signed
-signed_from minus n = cond (leb n (most minus)) (I (with_sign minus n)) NotI
+unfoldable pub signed_from : Bool → ℕ → Option ℤ
+signed_from minus n = cond (leb n (most minus)) (Some (with_sign minus n)) None

@@ -6,19 +6,17 @@ ghost use Rattle.number.specs.Decimal.{plain_of, decimal_of};
 use crate::trim::trim;
 use crate::whole::{after_sign, begins, read_run};
 
+// A written number: whether it has a minus, M, and p.
 #[derive(Clone, Copy)]
-pub enum Decimal {
-    Plain {
-        minus: bool,
-        digits: u64,
-        places: usize,
-    },
-    NotPlain,
+pub struct Decimal {
+    pub minus: bool,
+    pub digits: u64,
+    pub places: usize,
 }
 
 // Digits, an optional point, digits, with at least one digit. Ten digits keep below 2^64, so the digits at the
 // front end at the first byte that is none.
-pub(crate) fn read_plain(minus: bool, text: &[u8]) -> Decimal
+pub(crate) fn read_plain(minus: bool, text: &[u8]) -> Option<Decimal>
     requires { length text.now ≤ 10 }
     ensures { result ≡ plain_of minus text.now }
 {
@@ -26,38 +24,38 @@ pub(crate) fn read_plain(minus: bool, text: &[u8]) -> Decimal
     let i = first.count;
     if text.len() <= i {
         if i == 0 {
-            return Decimal::NotPlain;
+            return None;
         }
-        return Decimal::Plain {
+        return Some(Decimal {
             minus,
             digits: first.value,
             places: 0,
-        };
+        });
     }
     if text[i] != 46 {
-        return Decimal::NotPlain;
+        return None;
     }
     if text.len() < 2 {
-        return Decimal::NotPlain;
+        return None;
     }
     let rest = &text[i + 1..];
     let second = read_run(first.value, rest);
     if second.count < rest.len() {
-        return Decimal::NotPlain;
+        return None;
     }
-    Decimal::Plain {
+    Some(Decimal {
         minus,
         digits: second.value,
         places: rest.len(),
-    }
+    })
 }
 
-pub fn read_decimal(text: &[u8]) -> Decimal
+pub fn read_decimal(text: &[u8]) -> Option<Decimal>
     ensures { result ≡ decimal_of text.now }
 {
     let t = trim(text);
     if 10 < t.len() {
-        return Decimal::NotPlain;
+        return None;
     }
     read_plain(begins(45, t), after_sign(t))
 }

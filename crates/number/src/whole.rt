@@ -6,18 +6,6 @@ ghost use Rattle.number.specs.Whole as specs;
 
 use crate::trim::trim;
 
-#[derive(Clone, Copy)]
-pub enum Unsigned {
-    U(u64),
-    NotU,
-}
-
-#[derive(Clone, Copy)]
-pub enum Signed {
-    I(i64),
-    NotI,
-}
-
 // Digits at the front of a text: the number once they are read, and how many there are.
 #[derive(Clone, Copy)]
 pub struct Run {
@@ -50,17 +38,17 @@ pub fn read_run(before: u64, text: &[u8]) -> Run
 }
 
 // One or more digits and nothing else.
-pub(crate) fn read_digits(text: &[u8]) -> Unsigned
+pub(crate) fn read_digits(text: &[u8]) -> Option<u64>
     ensures { result ≡ specs.digits_of text.now }
 {
     if text.len() == 0 {
-        return Unsigned::NotU;
+        return None;
     }
     let got = read_run(0, text);
     if got.count < text.len() {
-        return Unsigned::NotU;
+        return None;
     }
-    Unsigned::U(got.value)
+    Some(got.value)
 }
 
 // Whether a text begins with the byte.
@@ -96,42 +84,40 @@ pub fn after_sign(text: &[u8]) -> &[u8]
     text
 }
 
-pub fn read_unsigned(text: &[u8]) -> Unsigned
+pub fn read_unsigned(text: &[u8]) -> Option<u64>
     ensures { result ≡ specs.unsigned_of text.now }
 {
     read_digits(after_plus(trim(text)))
 }
 
 // A number without a minus, up to 2^63-1.
-fn plus_signed(n: u64) -> Signed
+fn plus_signed(n: u64) -> Option<i64>
     ensures { result ≡ specs.signed_from false n }
 {
     if n <= 9223372036854775807 {
-        return Signed::I(n as i64);
+        return Some(n as i64);
     }
-    Signed::NotI
+    None
 }
 
 // A number behind a minus, down to -2^63.
-fn minus_signed(n: u64) -> Signed
+fn minus_signed(n: u64) -> Option<i64>
     ensures { result ≡ specs.signed_from true n }
 {
     if n <= 9223372036854775807 {
-        return Signed::I(0 - (n as i64));
+        return Some(0 - (n as i64));
     }
     if n == 9223372036854775808 {
-        return Signed::I(-9223372036854775808);
+        return Some(-9223372036854775808);
     }
-    Signed::NotI
+    None
 }
 
-pub fn read_signed(text: &[u8]) -> Signed
+pub fn read_signed(text: &[u8]) -> Option<i64>
     ensures { result ≡ specs.signed_of text.now }
 {
     let t = trim(text);
-    let Unsigned::U(n) = read_digits(after_sign(t)) else {
-        return Signed::NotI;
-    };
+    let n = read_digits(after_sign(t))?;
     if begins(45, t) {
         return minus_signed(n);
     }

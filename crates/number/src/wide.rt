@@ -5,18 +5,14 @@ ghost use Rattle.number.specs.Wide as specs;
 
 use crate::decimal::{Decimal, read_plain};
 use crate::trim::trim;
-use crate::whole::{Unsigned, after_sign, begins, read_digits};
+use crate::whole::{after_sign, begins, read_digits};
 
+// A written number with an exponent: whether that is below zero, and its size.
 #[derive(Clone, Copy)]
-pub enum Wide {
-    W {
-        minus: bool,
-        digits: u64,
-        places: usize,
-        lower: bool,
-        exponent: u64,
-    },
-    NotW,
+pub struct Wide {
+    pub decimal: Decimal,
+    pub lower: bool,
+    pub exponent: u64,
 }
 
 fn is_mark(b: u8) -> bool
@@ -43,49 +39,38 @@ fn mark_at(text: &[u8]) -> usize
 }
 
 // What stands before a mark, with what stands behind it.
-fn marked_parts(front: &[u8], behind: &[u8]) -> Wide
+fn marked_parts(front: &[u8], behind: &[u8]) -> Option<Wide>
     requires { length front.now ≤ 10 }
     ensures { result ≡ specs.marked_parts front.now behind.now }
 {
-    let Decimal::Plain {
-        minus,
-        digits,
-        places,
-    } = read_plain(begins(45, front), after_sign(front))
-    else {
-        return Wide::NotW;
-    };
-    let Unsigned::U(exponent) = read_digits(after_sign(behind)) else {
-        return Wide::NotW;
-    };
-    Wide::W {
-        minus,
-        digits,
-        places,
+    let decimal = read_plain(begins(45, front), after_sign(front))?;
+    let exponent = read_digits(after_sign(behind))?;
+    Some(Wide {
+        decimal,
         lower: begins(45, behind),
         exponent,
-    }
+    })
 }
 
 // What a text of up to ten bytes says with an exponent.
-fn marked_in(text: &[u8]) -> Wide
+fn marked_in(text: &[u8]) -> Option<Wide>
     requires { length text.now ≤ 10 }
     ensures { result ≡ specs.marked_in text.now }
 {
     let at = mark_at(text);
     if text.len() <= at {
-        return Wide::NotW;
+        return None;
     }
     marked_parts(&text[..at], &text[at + 1..])
 }
 
 // A plain decimal is none of these.
-pub fn read_marked(text: &[u8]) -> Wide
+pub fn read_marked(text: &[u8]) -> Option<Wide>
     ensures { result ≡ specs.marked_of text.now }
 {
     let t = trim(text);
     if 10 < t.len() {
-        return Wide::NotW;
+        return None;
     }
     marked_in(t)
 }

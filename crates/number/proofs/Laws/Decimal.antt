@@ -13,12 +13,12 @@ use borrow.Author.Tests.{lt-ltb, le-ltb, eqb-true, ne_eqb}
 use lib.ListN.{length, take, drop, get_or, length-append, length-take, length-drop}
 use lib.Seq.{split_at}
 use lib.Dec.{lit<, ltb, eqb}
+use Rattle.std.specs.Prelude.{Option, Some, None}
 use Rattle.number.specs.Whole.{digit, digits, some_digits, joined, joins, value_from, value_of, run_of}
-use Rattle.number.specs.Decimal.{before_point, behind_point, without_point, plain_of}
+use Rattle.number.specs.Decimal.{plain, before_point, behind_point, without_point, plain_of}
 use Rattle.number.specs.Grammar.{Fraction, whole, point}
 use Rattle.number.specs.declared.whole.Run.{Run}
 use Rattle.number.specs.declared.decimal.Decimal.{Decimal}
-use Rattle.number.specs.declared.decimal.Decimal.TheVariants.{Plain, NotPlain}
 use Rattle.number.proofs.Laws.Choice.{and_left, and_right, and_both, choose, pass, clash}
 use Rattle.number.proofs.Laws.Digits.{digit-at_most, digit_not, digits_append, value-append, value-below}
 use Rattle.number.proofs.Laws.Run.{run_front, run_full, run_short}
@@ -50,8 +50,8 @@ without-digits d t e = let (p, q) = around-digits d t e in rw (p, q) (append_ass
 
 -- ---- digits, and what stands behind them
 -- the plain decimal of the digits d and, behind the point, u
-abbrev pub parted : Bool → List ℕ → List ℕ → Decimal
-parted s d u = cond (some_digits (d ++ u)) (Plain s (value_of (d ++ u)) (length u)) NotPlain
+abbrev pub parted : Bool → List ℕ → List ℕ → Option Decimal
+parted s d u = cond (some_digits (d ++ u)) (Some (plain s (value_of (d ++ u)) (length u))) None
 
 fraction-parts : {t u : List ℕ} → Fraction t u → (without_point t ≡ u) × (behind_point t ≡ u)
 unfolding without_point before_point behind_point
@@ -67,20 +67,20 @@ unfolding without_point before_point behind_point
 without_other b t n = rw n refl
 
 plain-stopped : (s : Bool) (d : List ℕ) (b : ℕ) (t : List ℕ) → digits d ≡ true → eqb b 46 ≡ false → (digit b ≡ true → ⊥)
-    → NotPlain ≡ plain_of s (d ++ b ∷ t)
+    → None ≡ plain_of s (d ++ b ∷ t)
 unfolding plain_of digits
 plain-stopped s d b t e n none =
     let u = without_point (d ++ b ∷ t) in
     let v = without_point t in
     let text = without-digits d (b ∷ t) e ∙ ap (λ (l : List ℕ). d ++ l) (without_other b t n) in
     let same = ap digits text ∙ digits_append d (b ∷ v) in
-    pass (some_digits u) (Plain s (value_of u) (length (behind_point (d ++ b ∷ t)))) NotPlain
+    pass (some_digits u) (Some (plain s (value_of u) (length (behind_point (d ++ b ∷ t))))) None
     (λ y.
     none (and_left (digit b) (digits v)
     (and_right (digits d) (digit b && digits v) (sym same ∙ and_right (ltb 0 (length u)) (digits u) y))))
 
 -- ---- by the runs that the code reads
-pub plain-none : (s : Bool) (t : List ℕ) → length t ≡ 0 → NotPlain ≡ plain_of s t
+pub plain-none : (s : Bool) (t : List ℕ) → length t ≡ 0 → None ≡ plain_of s t
 unfolding plain_of without_point before_point behind_point
 plain-none s [] e = refl
 plain-none s (b ∷ t) e = absurd (omega arith)
@@ -96,16 +96,16 @@ abbrev rest : List ℕ → Run → List ℕ
 rest t r = drop (suc r.count) t
 
 module _ (s : Bool) (t : List ℕ) (r : Run) (e : r ≡ run_of 0 0 t) where
-  pub plain-whole : 0 < r.count → length t ≤ r.count → Plain s r.value 0 ≡ plain_of s t
+  pub plain-whole : 0 < r.count → length t ≤ r.count → Some (plain s r.value 0) ≡ plain_of s t
   plain-whole some h =
       let f = run_full t 0 r e (lit< tt) h in
-      ap (λ (v : ℕ). Plain s v 0) f.2
-      ∙ choose (Plain s (value_of t) 0) NotPlain (and_both (lt-ltb 0 (length t) (omega (arith, (run_front t 0 r e).within))) f.0)
+      ap (λ (v : ℕ). Some (plain s v 0)) f.2
+      ∙ choose (Some (plain s (value_of t) 0)) None (and_both (lt-ltb 0 (length t) (omega (arith, (run_front t 0 r e).within))) f.0)
       ∙ sym (rw (append-nil t) at (plain-parted s t whole f.0))
 
   module _ (h : r.count < length t) where
     -- in ten bytes there is room for one digit more, so the byte is none
-    pub plain_other : length t ≤ 10 → (next t r ≡ 46 → ⊥) → NotPlain ≡ plain_of s t
+    pub plain_other : length t ≤ 10 → (next t r ≡ 46 → ⊥) → None ≡ plain_of s t
     unfolding joins
     plain_other short other =
         let f = run_front t 0 r e in
@@ -125,7 +125,7 @@ module _ (s : Bool) (t : List ℕ) (r : Run) (e : r ≡ run_of 0 0 t) where
       lengths : length t ≡ length (ahead t r ++ rest t r) + 1
       lengths = simp (length-append, length-take, length-drop) (omega arith)
 
-      pub plain-point : length t < 2 → NotPlain ≡ plain_of s t
+      pub plain-point : length t < 2 → None ≡ plain_of s t
       plain-point few = rw (at-point, le-ltb 0 (length (ahead t r ++ rest t r)) (omega (arith, lengths))) refl
 
       -- behind the point the code reads a run p
@@ -133,10 +133,10 @@ module _ (s : Bool) (t : List ℕ) (r : Run) (e : r ≡ run_of 0 0 t) where
         value-both : value_of (ahead t r ++ rest t r) ≡ value_from r.value (rest t r)
         value-both = rw (run_front t 0 r e).value (value-append (ahead t r) (rest t r) 0)
 
-        pub plain-short : length t ≤ 10 → p.count < length (rest t r) → NotPlain ≡ plain_of s t
+        pub plain-short : length t ≤ 10 → p.count < length (rest t r) → None ≡ plain_of s t
         plain-short short l =
             let all = ahead t r ++ rest t r in
-            pass (some_digits all) (Plain s (value_of all) (length (rest t r))) NotPlain
+            pass (some_digits all) (Some (plain s (value_of all) (length (rest t r)))) None
             (λ y.
             let each = and_right (ltb 0 (length all)) (digits all) y in
             let v = value-below all 10 each (omega (arith, lengths)) in
@@ -145,13 +145,13 @@ module _ (s : Bool) (t : List ℕ) (r : Run) (e : r ≡ run_of 0 0 t) where
             (omega (arith, value-both)))
             ∙ sym at-point
 
-        pub plain-both : 2 ≤ length t → length (rest t r) ≤ p.count → Plain s p.value (length (rest t r)) ≡ plain_of s t
+        pub plain-both : 2 ≤ length t → length (rest t r) ≤ p.count → Some (plain s p.value (length (rest t r))) ≡ plain_of s t
         plain-both two l =
             let all = ahead t r ++ rest t r in
             let f = run_front t 0 r e in
             let a = run_full (rest t r) r.value p g (f.fits (lit< tt)) l in
             let each = digits_append (ahead t r) (rest t r) ∙ and_both f.each a.0 in
             let some = and_both (lt-ltb 0 (length all) (omega (arith, lengths))) each in
-            ap (λ (v : ℕ). Plain s v (length (rest t r))) (a.2 ∙ sym value-both)
-            ∙ choose (Plain s (value_of all) (length (rest t r))) NotPlain some
+            ap (λ (v : ℕ). Some (plain s v (length (rest t r)))) (a.2 ∙ sym value-both)
+            ∙ choose (Some (plain s (value_of all) (length (rest t r)))) None some
             ∙ sym at-point

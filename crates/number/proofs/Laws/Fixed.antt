@@ -11,14 +11,12 @@ use borrow.Author.Tests.{lt-leb, leb-true, ne_eqb}
 use lib.ListN.{length, take, drop, length-append, length-take, length-drop, take-append-drop}
 use lib.Seq.{take_all}
 use lib.Dec.{eqb, leb}
+use Rattle.std.specs.Prelude.{Some}
 use Rattle.number.specs.Trim.{white, leading, kept, end_trimmed, trimmed}
 use Rattle.number.specs.Whole.{digit, digits, value_from, value_of, most, with_sign, unsigned_of, signed_of}
-use Rattle.number.specs.Decimal.{decimal_of}
+use Rattle.number.specs.Decimal.{plain, decimal_of}
 use Rattle.number.specs.Grammar.{Plus, Sign, Fraction}
 use Rattle.number.specs.Word.{behind_blanks, behind_sign, none, code_of, minus_in, front_in, behind_in, eight_of, six_of, four_of, five_of, zeros}
-use Rattle.number.specs.declared.whole.Unsigned.TheVariants.{U}
-use Rattle.number.specs.declared.whole.Signed.TheVariants.{I}
-use Rattle.number.specs.declared.decimal.Decimal.TheVariants.{Plain}
 use Rattle.number.proofs.Laws.Choice.{and_left, and_right, and_both}
 use Rattle.number.proofs.Laws.Digits.{digits_append, value-append}
 use Rattle.number.proofs.Laws.Trim.{trimmed-le}
@@ -95,7 +93,7 @@ unfolding white
 point_black v e = (refl, digits_black v e)
 
 plain-said : (t d v : List ℕ) (n : ℕ) (minus : Bool) → t ≡ behind_blanks n (behind_sign minus d) ++ 46 ∷ v → digits d ≡ true → digits v ≡ true
-    → 0 < length v → length t ≤ 10 → decimal_of t ≡ Plain minus (value_from (value_of d) v) (length v)
+    → 0 < length v → length t ≤ 10 → decimal_of t ≡ Some (plain minus (value_from (value_of d) v) (length v))
 plain-said t d v n minus text x y some short =
     decimal-read (record {
       plain = record {
@@ -124,7 +122,7 @@ three-value m (a ∷ b ∷ []) e y = absurd (omega arith)
 three-value m (a ∷ b ∷ c ∷ []) e y = omega arith
 three-value m (a ∷ b ∷ c ∷ d ∷ v) e y = absurd (omega arith)
 
-pub eight_said : (t : List ℕ) → let c = code_of (eight_of t) in eqb c none ≡ false → decimal_of t ≡ Plain (minus_in c) (front_in c * 1000 + behind_in c) 3
+pub eight_said : (t : List ℕ) → let c = code_of (eight_of t) in eqb c none ≡ false → decimal_of t ≡ Some (plain (minus_in c) (front_in c * 1000 + behind_in c) 3)
 eight_said t n =
     let (long, h) = filled-said 8 t t (λ e. e) n in
     let v = h.behind in
@@ -153,7 +151,7 @@ two-value m a b = omega arith
 
 module _ (t d : List ℕ) (n : ℕ) (minus : Bool) (long : length t ≡ 6) (x : digits d ≡ true) where
   six-plain : (v : List ℕ) → 32 ∷ t ++ 48 ∷ [] ≡ behind_blanks n (behind_sign minus d) ++ 46 ∷ v → length v ≡ 3 → digits v ≡ true
-      → decimal_of t ≡ Plain minus (value_of d * 100 + value_of v / 10) 2
+      → decimal_of t ≡ Some (plain minus (value_of d * 100 + value_of v / 10) 2)
   six-plain [] e three y = absurd (omega arith)
   six-plain (a ∷ []) e three y = absurd (omega arith)
   six-plain (a ∷ b ∷ []) e three y = absurd (omega arith)
@@ -168,7 +166,7 @@ module _ (t d : List ℕ) (n : ℕ) (minus : Bool) (long : length t ≡ 6) (x : 
       ∙ rw (← zero', two-value (value_of d) a b) refl
   six-plain (a ∷ b ∷ z ∷ w ∷ v) e three y = absurd (omega arith)
 
-pub six-said : (t : List ℕ) → let c = code_of (six_of t) in eqb c none ≡ false → decimal_of t ≡ Plain (minus_in c) (front_in c * 100 + behind_in c / 10) 2
+pub six-said : (t : List ℕ) → let c = code_of (six_of t) in eqb c none ≡ false → decimal_of t ≡ Some (plain (minus_in c) (front_in c * 100 + behind_in c / 10) 2)
 six-said t n =
     let (long, h) = filled-said 6 t (32 ∷ t ++ 48 ∷ []) (λ e. simp length-append (omega arith)) n in
     six-plain t h.front h.blanks (minus_in (code_of (six_of t))) long h.each h.behind h.text h.three h.each_behind
@@ -179,7 +177,7 @@ most-of : (minus : Bool) (n : ℕ) → n < 65536 → n ≤ most minus
 most-of false n h = omega arith
 most-of true n h = omega arith
 
-pub four-said : (t : List ℕ) → let c = code_of (four_of t) in eqb c none ≡ false → signed_of t ≡ I (with_sign (minus_in c) (front_in c))
+pub four-said : (t : List ℕ) → let c = code_of (four_of t) in eqb c none ≡ false → signed_of t ≡ Some (with_sign (minus_in c) (front_in c))
 four-said t n =
     let c = code_of (four_of t) in
     let (long, h) = filled-said 4 t (t ++ 46 ∷ zeros 3) (λ e. simp length-append (omega arith)) n in
@@ -205,7 +203,7 @@ last-value m x = omega arith
 
 module _ (t d v : List ℕ) (n : ℕ) (long : length t ≡ 5) (each : digits d ≡ true) (three : length v ≡ 3) (each' : digits v ≡ true) where
   five_plain : (u : List ℕ) → length u ≡ 1 → t ≡ behind_blanks n d ++ u → u ++ 48 ∷ 48 ∷ [] ≡ v → value_of d * 10 + value_of v / 100 < 2 ^ 64
-      → unsigned_of t ≡ U (value_of d * 10 + value_of v / 100)
+      → unsigned_of t ≡ Some (value_of d * 10 + value_of v / 100)
   five_plain [] l e q small = absurd (omega arith)
   five_plain (x ∷ []) l e q small =
       let last = and_left (digits (x ∷ [])) (digits (48 ∷ 48 ∷ [])) (sym (digits_append (x ∷ []) (48 ∷ 48 ∷ [])) ∙ ap digits q ∙ each') in
@@ -221,7 +219,7 @@ module _ (t d v : List ℕ) (n : ℕ) (long : length t ≡ 5) (each : digits d �
       })
   five_plain (x ∷ y ∷ u) l e q small = absurd (omega arith)
 
-pub five_said : (t : List ℕ) → let c = code_of (five_of t) in eqb c none ≡ false → minus_in c ≡ false → unsigned_of t ≡ U (front_in c * 10 + behind_in c / 100)
+pub five_said : (t : List ℕ) → let c = code_of (five_of t) in eqb c none ≡ false → minus_in c ≡ false → unsigned_of t ≡ Some (front_in c * 10 + behind_in c / 100)
 five_said t n plus =
     let c = code_of (five_of t) in
     let (long, h) =

@@ -16,14 +16,13 @@ use borrow.Author.Tests.{lt-ltb, le-leb, ltb-true, leb-true, eqb-true, ne_eqb}
 use lib.ListN.{length, drop}
 use lib.Dec.{lit<, leb, ltb, eqb}
 use lib.IntN.{ℤ}
+use Rattle.std.specs.Prelude.{Some, None}
 use Rattle.number.specs.Trim.{trimmed}
 use Rattle.number.specs.Whole.{digit, digits, some_digits, value_of, begins, after_plus, after_sign, most, with_sign}
 use Rattle.number.specs.Whole.{digits_of, unsigned_of, signed_digits, signed_of}
-use Rattle.number.specs.Decimal.{before_point, behind_point, without_point, plain_of, decimal_of}
+use Rattle.number.specs.Decimal.{plain, before_point, behind_point, without_point, plain_of, decimal_of}
+use Rattle.number.specs.declared.decimal.Decimal.{Decimal}
 use Rattle.number.specs.Grammar.{Plus, Sign, Fraction, SaysU, SaysI, SaysPlain, SaysR}
-use Rattle.number.specs.declared.whole.Unsigned.TheVariants.{U, NotU}
-use Rattle.number.specs.declared.whole.Signed.TheVariants.{I, NotI}
-use Rattle.number.specs.declared.decimal.Decimal.TheVariants.{Plain, NotPlain}
 use Rattle.number.proofs.Laws.Choice.{and_left, and_right, and_both, chosen}
 use Rattle.number.proofs.Laws.Digits.{digit_not, digits_append}
 use Rattle.number.proofs.Laws.Decimal.{point-split, plain-parted}
@@ -83,38 +82,38 @@ pub some_read : (d : List ℕ) → 0 < length d → digits d ≡ true → some_d
 some_read d h e = and_both (lt-ltb 0 (length d) h) e
 
 -- ---- whole numbers
-pub unsigned_form : (t : List ℕ) {n : ℕ} → unsigned_of t ≡ U n → SaysU t n
+pub unsigned_form : (t : List ℕ) {n : ℕ} → unsigned_of t ≡ Some n → SaysU t n
 unfolding unsigned_of digits_of
 unsigned_form t {n} e =
     let (s, p, text) = plus_form (trimmed t) in
     let d = after_plus (trimmed t) in
     let small = ltb (value_of d) (2 ^ 64) in
-    let (c, u) = chosen (some_digits d && small) (U (value_of d)) NotU e (λ q. cc) in
+    let (c, u) = chosen (some_digits d && small) (Some (value_of d)) None e (λ q. cc) in
     let (some, each) = some_form d (and_left (some_digits d) small c) in
     let value : n ≡ value_of d = cc in
     let limit : n < 2 ^ 64 = rw value (ltb-true (value_of d) (2 ^ 64) (and_right (some_digits d) small c)) in
     record { sign = s; digs = d; plus = p; text = text; some = some; each = each; value = value; limit = limit }
 
-pub unsigned-read : {t : List ℕ} {n : ℕ} → SaysU t n → unsigned_of t ≡ U n
+pub unsigned-read : {t : List ℕ} {n : ℕ} → SaysU t n → unsigned_of t ≡ Some n
 unfolding unsigned_of digits_of
 unsigned-read {n = n} h =
     let d = h.digs in
     rw (h.text, plus-read h.plus d (no_sign 43 d (lit< tt) h.each), some_read d h.some h.each)
     (rw (← h.value, lt-ltb n (2 ^ 64) h.limit) refl)
 
-pub signed_form : (t : List ℕ) {z : ℤ} → signed_of t ≡ I z → SaysI t z
+pub signed_form : (t : List ℕ) {z : ℤ} → signed_of t ≡ Some z → SaysI t z
 unfolding signed_of signed_digits
 signed_form t e =
     let (s, p, text) = sign_form (trimmed t) in
     let m = begins 45 (trimmed t) in
     let d = after_sign (trimmed t) in
     let small = leb (value_of d) (most m) in
-    let (c, u) = chosen (some_digits d && small) (I (with_sign m (value_of d))) NotI e (λ q. cc) in
+    let (c, u) = chosen (some_digits d && small) (Some (with_sign m (value_of d))) None e (λ q. cc) in
     let (some, each) = some_form d (and_left (some_digits d) small c) in
     let limit = leb-true (value_of d) (most m) (and_right (some_digits d) small c) in
     record { is_minus = m; sign = s; digs = d; signed = p; text = text; some = some; each = each; value = cc; limit = limit }
 
-pub signed-read : {t : List ℕ} {z : ℤ} → SaysI t z → signed_of t ≡ I z
+pub signed-read : {t : List ℕ} {z : ℤ} → SaysI t z → signed_of t ≡ Some z
 unfolding signed_of signed_digits
 signed-read h =
     let d = h.digs in
@@ -122,32 +121,32 @@ signed-read h =
     rw (h.text, m, a, some_read d h.some h.each, le-leb (value_of d) (most h.is_minus) h.limit, ← h.value) refl
 
 -- ---- plain decimals
-pub plain_form : (t : List ℕ) {s : Bool} {m p : ℕ} → plain_of (begins 45 t) (after_sign t) ≡ Plain s m p → SaysPlain t s m p
+pub plain_form : (t : List ℕ) {s : Bool} {m p : ℕ} → plain_of (begins 45 t) (after_sign t) ≡ Some (plain s m p) → SaysPlain t s m p
 unfolding plain_of without_point
-plain_form t {s} e =
+plain_form t {s} {m} {p} e =
     let (g, signed, text) = sign_form t in
     let u = after_sign t in
     let d = without_point u in
     let (tail, f, split) = point-split u in
     let is_minus = begins 45 t in
-    let (c, r) = chosen (some_digits d) (Plain is_minus (value_of d) (length (behind_point u))) NotPlain e (λ q. cc) in
+    let (c, r) = chosen (some_digits d) (Some (plain is_minus (value_of d) (length (behind_point u)))) None e (λ q. cc) in
     let (some, each) = some_form d c in
-    let same : is_minus ≡ s = cc in
+    let same : plain is_minus (value_of d) (length (behind_point u)) ≡ plain s m p = cc in
     record {
       sign = g;
       front = before_point u;
       tail = tail;
       behind = behind_point u;
-      signed = rw same at signed;
+      signed = rw (ap (λ (n : Decimal). n.minus) same) at signed;
       fraction = f;
       text = text ∙ ap (λ (l : List ℕ). g ++ l) split ∙ sym (append_assoc g (before_point u) tail);
       some = some;
       each = each;
-      value = cc;
-      places = cc;
+      value = sym (ap (λ (n : Decimal). n.digits) same);
+      places = sym (ap (λ (n : Decimal). n.places) same);
     }
 
-pub plain-read : {t : List ℕ} {s : Bool} {m p : ℕ} → SaysPlain t s m p → plain_of (begins 45 t) (after_sign t) ≡ Plain s m p
+pub plain-read : {t : List ℕ} {s : Bool} {m p : ℕ} → SaysPlain t s m p → plain_of (begins 45 t) (after_sign t) ≡ Some (plain s m p)
 plain-read {s = s} h =
     let d = h.front in
     let u = h.behind in
@@ -158,13 +157,13 @@ plain-read {s = s} h =
     rw (h.text, append_assoc h.sign d h.tail, m, a, plain-parted s d f each)
     (rw (some_read (d ++ u) h.some h.each, ← h.value, ← h.places) refl)
 
-pub decimal_form : (t : List ℕ) {s : Bool} {m p : ℕ} → decimal_of t ≡ Plain s m p → SaysR t s m p
+pub decimal_form : (t : List ℕ) {s : Bool} {m p : ℕ} → decimal_of t ≡ Some (plain s m p) → SaysR t s m p
 unfolding decimal_of
 decimal_form t e =
     let u = trimmed t in
-    let (w, v) = chosen (leb (length u) 10) (plain_of (begins 45 u) (after_sign u)) NotPlain e (λ q. cc) in
+    let (w, v) = chosen (leb (length u) 10) (plain_of (begins 45 u) (after_sign u)) None e (λ q. cc) in
     record { plain = plain_form u v; width = leb-true (length u) 10 w }
 
-pub decimal-read : {t : List ℕ} {s : Bool} {m p : ℕ} → SaysR t s m p → decimal_of t ≡ Plain s m p
+pub decimal-read : {t : List ℕ} {s : Bool} {m p : ℕ} → SaysR t s m p → decimal_of t ≡ Some (plain s m p)
 unfolding decimal_of
 decimal-read {t} h = rw (le-leb (length (trimmed t)) 10 h.width) (plain-read h.plain)

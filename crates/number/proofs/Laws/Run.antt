@@ -16,9 +16,9 @@ use borrow.Author.Tests.{lt-ltb, le-ltb, le-leb, lt-leb, ltb-true}
 use lib.ListN.{length, drop, take, get_or, drop_of_length-le}
 use lib.Seq.{drop-cons, take_all, split_at}
 use lib.Dec.{leb, ltb}
+use Rattle.std.specs.Prelude.{Some, None}
 use Rattle.number.specs.Whole.{digit, digits, some_digits, joined, joins, value_from, value_of, run_of, digits_of}
 use Rattle.number.specs.declared.whole.Run.{Run}
-use Rattle.number.specs.declared.whole.Unsigned.TheVariants.{U, NotU}
 use Rattle.number.proofs.Laws.Choice.{and_left, and_right, and_both, choose, pass, clash}
 use Rattle.number.proofs.Laws.Digits.{digits-at, value_ge, value-append}
 
@@ -123,25 +123,25 @@ module _ (t : List ℕ) (m : ℕ) (r : Run) (e : r ≡ run_of m 0 t) where
       clash (and_both (digits-at t r.count h d) (lt-ltb (joined r.value b) (2 ^ 64) less)) (f.stops h)
 
 -- ---- one or more digits and nothing else
-pub digits-none : (t : List ℕ) → length t ≡ 0 → NotU ≡ digits_of t
+pub digits-none : (t : List ℕ) → length t ≡ 0 → None ≡ digits_of t
 unfolding digits_of
 digits-none [] e = refl
 digits-none (b ∷ t) e = absurd (omega arith)
 
 module _ (t : List ℕ) (r : Run) (e : r ≡ run_of 0 0 t) where
-  pub digits-short : r.count < length t → NotU ≡ digits_of t
+  pub digits-short : r.count < length t → None ≡ digits_of t
   unfolding digits_of
   digits-short h =
       let some = some_digits t in
       let small = ltb (value_of t) (2 ^ 64) in
-      pass (some && small) (U (value_of t)) NotU
+      pass (some && small) (Some (value_of t)) None
       (λ y.
       run_short t 0 r e h (and_right (ltb 0 (length t)) (digits t) (and_left some small y))
       (ltb-true (value_of t) (2 ^ 64) (and_right some small y)))
 
-  pub digits-full : 0 < length t → length t ≤ r.count → U r.value ≡ digits_of t
+  pub digits-full : 0 < length t → length t ≤ r.count → Some r.value ≡ digits_of t
   unfolding digits_of
   digits-full some h =
       let a = run_full t 0 r e (omega arith) h in
       let yes = and_both (and_both (lt-ltb 0 (length t) some) a.0) (lt-ltb (value_of t) (2 ^ 64) a.1) in
-      ap U a.2 ∙ choose (U (value_of t)) NotU yes
+      ap Some a.2 ∙ choose (Some (value_of t)) None yes

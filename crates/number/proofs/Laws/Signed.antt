@@ -16,20 +16,17 @@ use lib.Signed.{mag}
 use mir.Syntax.{w64}
 use mir.Val.{SFits, to_z, of_z}
 use mir.Facts.{to_z_pos, to_z-of_z}
+use Rattle.std.specs.Prelude.{Option, Some, None}
 use Rattle.number.specs.Trim.{trimmed}
 use Rattle.number.specs.Whole.{some_digits, value_of, begins, after_sign, most, with_sign}
 use Rattle.number.specs.Whole.{digits_of, signed_digits, signed_of, signed_from}
-use Rattle.number.specs.declared.whole.Unsigned.{Unsigned}
-use Rattle.number.specs.declared.whole.Unsigned.TheVariants.{U, NotU}
-use Rattle.number.specs.declared.whole.Signed.{Signed}
-use Rattle.number.specs.declared.whole.Signed.TheVariants.{I, NotI}
 
 -- ---- by the test
-pub signed_yes : (s : Bool) (n : ℕ) → n ≤ most s → I (with_sign s n) ≡ signed_from s n
+pub signed_yes : (s : Bool) (n : ℕ) → n ≤ most s → Some (with_sign s n) ≡ signed_from s n
 unfolding signed_from
 signed_yes s n h = rw (le-leb n (most s) h) refl
 
-pub signed_no : (s : Bool) (n : ℕ) → most s < n → NotI ≡ signed_from s n
+pub signed_no : (s : Bool) (n : ℕ) → most s < n → None ≡ signed_from s n
 unfolding signed_from
 signed_no s n h = rw (lt-leb n (most s) h) refl
 
@@ -45,9 +42,9 @@ pub held-is : {z : ℤ} → mag z < 2 ^ 63 → to_z w64 (of_z w64 z) ≡ z
 held-is h = to_z-of_z {w = w64} (record { sfits = h })
 
 -- ---- by way of U
-abbrev pub signed_by_of : Bool → Unsigned → Signed
-signed_by_of s NotU = NotI
-signed_by_of s (U n) = signed_from s n
+abbrev pub signed_by_of : Bool → Option ℕ → Option ℤ
+signed_by_of s None = None
+signed_by_of s (Some n) = signed_from s n
 
 most-fits : (s : Bool) (n : ℕ) → n ≤ most s → n < 2 ^ 64
 most-fits false n h = omega arith
@@ -58,16 +55,16 @@ unfolding signed_digits digits_of signed_from
 signed_by s t = go (some_digits t) (leb (value_of t) (most s)) refl
   where
     go : (a b : Bool) → leb (value_of t) (most s) ≡ b
-        → cond (a && b) (I (with_sign s (value_of t))) NotI ≡ signed_by_of s (cond (a && ltb (value_of t) (2 ^ 64)) (U (value_of t)) NotU)
+        → cond (a && b) (Some (with_sign s (value_of t))) None ≡ signed_by_of s (cond (a && ltb (value_of t) (2 ^ 64)) (Some (value_of t)) None)
     go false b e = refl
     go true true e = rw (lt-ltb (value_of t) (2 ^ 64) (most-fits s (value_of t) (leb-true (value_of t) (most s) e))) (rw e refl)
     go true false e = over (ltb (value_of t) (2 ^ 64)) e
       where
-        over : (d : Bool) → leb (value_of t) (most s) ≡ false → NotI ≡ signed_by_of s (cond d (U (value_of t)) NotU)
+        over : (d : Bool) → leb (value_of t) (most s) ≡ false → None ≡ signed_by_of s (cond d (Some (value_of t)) None)
         over true e = rw e refl
         over false e = refl
 
-pub signed-of : (t u v : List ℕ) (s : Bool) (d : Unsigned) → u ≡ trimmed t → v ≡ after_sign u → s ≡ begins 45 u → d ≡ digits_of v
+pub signed-of : (t u v : List ℕ) (s : Bool) (d : Option ℕ) → u ≡ trimmed t → v ≡ after_sign u → s ≡ begins 45 u → d ≡ digits_of v
     → signed_by_of s d ≡ signed_of t
 unfolding signed_of
 signed-of t u v s d p q r e = rw (signed_by (begins 45 (trimmed t)) (after_sign (trimmed t)), ← p, ← q, ← r, ← e) refl

@@ -12,16 +12,14 @@ use borrow.Author.Tests.{lt-ltb, le-leb, leb-true, ne_eqb}
 use lib.ListN.{length, get_or, length-append, length-drop}
 use lib.Seq.{split_at, take_at, drop-append-add}
 use lib.Dec.{lit<, leb, ltb}
+use Rattle.std.specs.Prelude.{Option, Some, None}
 use Rattle.number.specs.Trim.{trimmed}
 use Rattle.number.specs.Whole.{digit, digits, some_digits, value_of, begins, after_sign, digits_of}
-use Rattle.number.specs.Decimal.{plain_of, decimal_of}
+use Rattle.number.specs.Decimal.{plain, plain_of, decimal_of}
 use Rattle.number.specs.Grammar.{Sign, Fraction, SaysPlain, SaysX}
-use Rattle.number.specs.Wide.{mark, mark_at, before_mark, behind_mark, wide_from, marked_parts, marked_in, marked_of, wide_of}
-use Rattle.number.specs.declared.whole.Unsigned.{Unsigned}
-use Rattle.number.specs.declared.whole.Unsigned.TheVariants.{U, NotU}
+use Rattle.number.specs.Wide.{wide, mark, mark_at, before_mark, behind_mark, wide_from, marked_parts, marked_in, marked_of, wide_of}
 use Rattle.number.specs.declared.decimal.Decimal.{Decimal}
-use Rattle.number.specs.declared.decimal.Decimal.TheVariants.{Plain, NotPlain}
-use Rattle.number.specs.declared.wide.Wide.TheVariants.{W, NotW}
+use Rattle.number.specs.declared.wide.Wide.{Wide}
 use Rattle.number.proofs.Laws.Choice.{and_left, and_right, chosen}
 use Rattle.number.proofs.Laws.Digits.{digits_append, after_sign-le, value-below}
 use Rattle.number.proofs.Laws.Grammar.{sign_form, sign_read, no_sign, some_form, some_read, plain_form, plain-read, decimal_form}
@@ -96,23 +94,25 @@ at_mark a l r e m =
     (take_at a (l ∷ r) (mark_at (a ++ l ∷ r)) (sym place), rw (place, next) (drop-append-add a (l ∷ r) 1))
 
 -- ---- both ways
-from_form : (d : Decimal) (l : Bool) (y : Unsigned) {s : Bool} {m p : ℕ} {lower : Bool} {x : ℕ} → wide_from d l y ≡ W s m p lower x
-    → (d ≡ Plain s m p) × (y ≡ U x) × (l ≡ lower)
-from_form NotPlain l y e = absurd (let z : ◌≡◌ {A = ℕ} 0 1 = cc in omega arith)
-from_form (Plain s m p) l NotU e = absurd (let z : ◌≡◌ {A = ℕ} 0 1 = cc in omega arith)
-from_form (Plain s m p) l (U x) e = (cc, cc, cc)
+from_form : (d : Option Decimal) (l : Bool) (y : Option ℕ) {s : Bool} {m p : ℕ} {lower : Bool} {x : ℕ} → wide_from d l y ≡ Some (wide (plain s m p) lower x)
+    → (d ≡ Some (plain s m p)) × (y ≡ Some x) × (l ≡ lower)
+from_form None l y e = absurd (let z : ◌≡◌ {A = ℕ} 0 1 = cc in omega arith)
+from_form (Some d) l None e = absurd (let z : ◌≡◌ {A = ℕ} 0 1 = cc in omega arith)
+from_form (Some d) l (Some y) {s} {m} {p} {lower} {x} e =
+    let same : wide d l y ≡ wide (plain s m p) lower x = cc in
+    (ap (λ (w : Wide). Some w.decimal) same, ap (λ (w : Wide). Some w.exponent) same, ap (λ (w : Wide). w.lower) same)
 
-pub marked_form : (t : List ℕ) {s : Bool} {m p : ℕ} {lower : Bool} {x : ℕ} → marked_of t ≡ W s m p lower x → SaysX t s m p lower x
+pub marked_form : (t : List ℕ) {s : Bool} {m p : ℕ} {lower : Bool} {x : ℕ} → marked_of t ≡ Some (wide (plain s m p) lower x) → SaysX t s m p lower x
 unfolding marked_of marked_in marked_parts digits_of
 marked_form t {s} {m} {p} {lower} {x} e =
     let u = trimmed t in
     let f = before_mark u in
     let b = behind_mark u in
     let d = after_sign b in
-    let (w, v) = chosen (leb (length u) 10) (marked_parts f b) NotW e (λ q. cc) in
+    let (w, v) = chosen (leb (length u) 10) (marked_parts f b) None e (λ q. cc) in
     let (plain, digs, low) = from_form (plain_of (begins 45 f) (after_sign f)) (begins 45 b) (digits_of d) v in
     let small = ltb (value_of d) (2 ^ 64) in
-    let (c, r) = chosen (some_digits d && small) (U (value_of d)) NotU digs (λ q. cc) in
+    let (c, r) = chosen (some_digits d && small) (Some (value_of d)) None digs (λ q. cc) in
     let (some, each) = some_form d (and_left (some_digits d) small c) in
     let (g, signed, text) = sign_form b in
     let value : x ≡ value_of d = cc in
@@ -132,7 +132,7 @@ marked_form t {s} {m} {p} {lower} {x} e =
       value = value;
     }
 
-pub marked-read : (t : List ℕ) {s : Bool} {m p : ℕ} {lower : Bool} {x : ℕ} → SaysX t s m p lower x → marked_of t ≡ W s m p lower x
+pub marked-read : (t : List ℕ) {s : Bool} {m p : ℕ} {lower : Bool} {x : ℕ} → SaysX t s m p lower x → marked_of t ≡ Some (wide (plain s m p) lower x)
 unfolding marked_of marked_in marked_parts digits_of
 marked-read t h =
     let a = h.decimal in
@@ -156,12 +156,12 @@ marked-read t h =
     ) refl
 
 -- no such text is a plain decimal
-pub marked_not_plain : (t : List ℕ) {s : Bool} {m p : ℕ} {lower : Bool} {x : ℕ} → SaysX t s m p lower x → decimal_of t ≡ NotPlain
+pub marked_not_plain : (t : List ℕ) {s : Bool} {m p : ℕ} {lower : Bool} {x : ℕ} → SaysX t s m p lower x → decimal_of t ≡ None
 marked_not_plain t h = go (decimal_of t) refl
   where
-    go : (d : Decimal) → decimal_of t ≡ d → d ≡ NotPlain
-    go NotPlain e = refl
-    go (Plain s m p) e =
+    go : (d : Option Decimal) → decimal_of t ≡ d → d ≡ None
+    go None e = refl
+    go (Some d) e =
         let a = h.decimal in
         let r = h.sign ++ h.digs in
         let none = plain-unmarked (trimmed t) (decimal_form t e).plain in
@@ -169,6 +169,6 @@ marked_not_plain t h = go (decimal_of t) refl
         absurd (omega (arith, none, ap mark_at h.text, ap length h.text, place, length-append a (h.letter ∷ r)))
 
 -- with the option on it is read so
-pub wide_read : (t : List ℕ) {s : Bool} {m p : ℕ} {lower : Bool} {x : ℕ} → SaysX t s m p lower x → wide_of t ≡ W s m p lower x
+pub wide_read : (t : List ℕ) {s : Bool} {m p : ℕ} {lower : Bool} {x : ℕ} → SaysX t s m p lower x → wide_of t ≡ Some (wide (plain s m p) lower x)
 unfolding wide_of
 wide_read t h = rw (marked_not_plain t h, marked-read t h) refl

@@ -7,8 +7,8 @@ use lib.IntN.{ℤ}
 use mir.Syntax.{w64}
 use mir.Val.{to_z, of_z}
 use mir.Facts.{to_z-of_z}
+use Rattle.std.specs.Prelude.{Some}
 use Rattle.number.proofs.Laws.Signed.{signed_yes, signed_no, minus_is, minus-fits}
-use Rattle.number.specs.declared.whole.Signed.TheVariants.{I}
 use Rattle.number.proofs.whole.minus_signed.Goals as goal
 
 pub overflow_sub-result : goal.overflow_sub-result
@@ -18,7 +18,7 @@ pub returns-then-n-le9223372036854775807 : goal.returns-then-n-le922337203685477
 returns-then-n-le9223372036854775807 c =
     let n = c.args.n in
     let h = c.if-n-le9223372036854775807.true in
-    ap I (ap (λ (z : ℤ). to_z w64 (of_z w64 z)) (minus_is n h) ∙ to_z-of_z {w = w64} (minus-fits n h))
+    ap Some (ap (λ (z : ℤ). to_z w64 (of_z w64 z)) (minus_is n h) ∙ to_z-of_z {w = w64} (minus-fits n h))
     ∙ signed_yes true n (omega arith)
 
 pub returns-then-n-eq9223372036854775808 : goal.returns-then-n-eq9223372036854775808

@@ -2,27 +2,19 @@
 -- Assumes nothing.
 use mathlib.Core.Path.{refl, sym, ◌∙◌}
 use mathlib.Core.Bool.{true, false}
+use Rattle.std.specs.Prelude.{Some, None}
 use Rattle.number.proofs.Laws.Signed.{signed-of}
-use Rattle.number.specs.declared.whole.Unsigned.TheVariants.{U, NotU}
 use Rattle.number.proofs.whole.read_signed.Goals as goal
 
-pub returns-in_default : goal.returns-in_default
-returns-in_default c =
-    signed-of _ _ _ _ NotU c.trim-t.ensures c.after_sign.ensures refl
-    (sym c.in_default.is ∙ c.read_digits.ensures)
+pub returns-in_err-n : goal.returns-in_err-n
+returns-in_err-n c = c.from_residual.ensures ∙ signed-of _ _ _ _ None c.trim-t.ensures c.after_sign.ensures refl c.in_err-n.ensures
 
 pub returns-then-begins : goal.returns-then-begins
 returns-then-begins c =
-    let sign = sym c.if-begins.true ∙ c.begins.ensures in
-    let said = sym c.in-U.is ∙ c.read_digits.ensures in
     c.minus_signed.ensures
-    ∙ signed-of _ _ _ true (U _) c.trim-t.ensures c.after_sign.ensures
-    sign said
+    ∙ signed-of _ _ _ true (Some _) c.trim-t.ensures c.after_sign.ensures (sym c.if-begins.true ∙ c.begins.ensures) c.in_ok-n.ensures
 
 pub returns : goal.returns
 returns c =
-    let sign = sym c.if-begins.false ∙ c.begins.ensures in
-    let said = sym c.in-U.is ∙ c.read_digits.ensures in
     c.plus_signed.ensures
-    ∙ signed-of _ _ _ false (U _) c.trim-t.ensures c.after_sign.ensures
-    sign said
+    ∙ signed-of _ _ _ false (Some _) c.trim-t.ensures c.after_sign.ensures (sym c.if-begins.false ∙ c.begins.ensures) c.in_ok-n.ensures
