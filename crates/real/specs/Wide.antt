@@ -1,18 +1,16 @@
 -- What a text says as R with the option for exponents (2026-10): "With M and p as in 01 and exponent x, the field is read when x - p lies from -22 to
 -- 22, or M is 0; otherwise fault 2. The double is the nearest to the exact value, a tie to the even last bit. The places count of 2026-02 is p."
 -- The exact value is M 10 ^ a over 10 ^ b, where a is x - p above zero and b is p - x above zero: one of them is 0.
-use Rattle.std.specs.Prelude.{ℕ, ◌+◌, ◌-◌, ◌*◌, ◌^◌, ◌≤◌, ◌<◌, ◌≡◌, Bool, true, false, cond, ◌&&◌, ◌||◌, List, leb, eqb, Float}
+use Rattle.std.specs.Prelude.{ℕ, ◌+◌, ◌-◌, ◌*◌, ◌^◌, ◌≤◌, ◌<◌, ◌≡◌, Bool, true, false, cond, ◌&&◌, ◌||◌, List, leb, eqb, Float, Option, Some, None, option_map}
 use Rattle.std.specs.Float.{binary64}
 use Rattle.std.specs.Float.Ieee.{round}
 use Rattle.std.specs.Float.Ieee.Exact.{HasValue}
 use Rattle.number.specs.Decimal.{decimal_of}
 use Rattle.number.specs.Wide.{without_mark, wide_of}
 use Rattle.number.specs.declared.wide.Wide.{Wide}
-use Rattle.number.specs.declared.wide.Wide.TheVariants.{W, NotW}
 use Rattle.real.specs.Near.{apart}
-use Rattle.real.specs.Real.{real_of}
+use Rattle.real.specs.Real.{real, real_of}
 use Rattle.real.specs.declared.Real.{Real}
-use Rattle.real.specs.declared.Real.TheVariants.{R, NotR}
 
 -- x - p, above zero and below
 abbrev pub raised : Bool → ℕ → ℕ → ℕ
@@ -30,26 +28,37 @@ nearest_to s m a b = round binary64 s (m * 10 ^ a) (10 ^ b)
 abbrev pub in_reach : ℕ → ℕ → ℕ → Bool
 in_reach m a b = eqb m 0 || (leb a 22 && leb b 22)
 
+-- the two powers of ten of a number with an exponent
+abbrev pub raised_in : Wide → ℕ
+raised_in w = raised w.lower w.exponent w.decimal.places
+
+abbrev pub lowered_in : Wide → ℕ
+lowered_in w = lowered w.lower w.exponent w.decimal.places
+
 -- of a number with an exponent, what is read of it
-abbrev pub within : Wide → Wide
-within NotW = NotW
-within (W s m p lower x) = cond (in_reach m (raised lower x p) (lowered lower x p)) (W s m p lower x) NotW
+abbrev pub within : Option Wide → Option Wide
+within None = None
+within (Some w) = cond (in_reach w.decimal.digits (raised_in w) (lowered_in w)) (Some w) None
 
-abbrev pub doubled : Wide → Real
-doubled NotW = NotR
-doubled (W s m p lower x) = R (nearest_to s m (raised lower x p) (lowered lower x p)) p
+abbrev pub doubled : Option Wide → Option Real
+doubled None = None
+doubled (Some w) = Some (real (nearest_to w.decimal.minus w.decimal.digits (raised_in w) (lowered_in w)) w.decimal.places)
 
-abbrev pub wide_real : Wide → Real
+abbrev pub wide_real : Option Wide → Option Real
 wide_real w = doubled (within w)
 
+-- its double, if that is in reach
+abbrev pub wide_double : Wide → Option Float
+wide_double w = option_map (λ (r : Real). r.value) (wide_real (Some w))
+
 -- what a text says as R by the option
-unfoldable pub real_with : Bool → List ℕ → Real
+unfoldable pub real_with : Bool → List ℕ → Option Real
 real_with false t = real_of t
 real_with true t = wide_real (wide_of t)
 
 -- what a text says that is read
-abbrev pub said_with : Bool → List ℕ → Wide
-said_with false t = without_mark (decimal_of t) NotW
+abbrev pub said_with : Bool → List ℕ → Option Wide
+said_with false t = without_mark (decimal_of t) None
 said_with true t = within (wide_of t)
 
 -- ---- demand 3

@@ -11,14 +11,14 @@ ghost use Rattle.real.specs.Real as specs;
 pub mod wide;
 
 use number::decimal::{Decimal, read_decimal};
-use number::whole::{Signed, read_signed};
+use number::whole::read_signed;
 use number::word::{MINUS, NONE, eight, read_word, six};
 
 // A double, and how many digits stood behind the point. An integer has none there.
 #[derive(Clone, Copy)]
-pub enum Real {
-    R(f64, u8),
-    NotR,
+pub struct Real {
+    pub value: f64,
+    pub places: u8,
 }
 
 // 10^p as a whole number: one, p times multiplied by ten.
@@ -59,14 +59,13 @@ fn power(p: usize) -> f64
 
 // M over 10^p, with its sign, which goes with the divisor: whether a coordinate has a minus can't be guessed, and of two constants one is
 // taken without a guess. M goes by way of a signed integer, which a machine makes a double of in one step.
-fn double(minus: bool, digits: u64, places: usize) -> f64
-    requires digits_bound { digits < 10 ^ 10 }
-    requires places_bound { places ≤ 9 }
-    ensures { result ≡ double_of minus digits places }
+fn double(decimal: Decimal) -> f64
+    requires { specs.Few decimal }
+    ensures { result ≡ double_of decimal.minus decimal.digits decimal.places }
 {
-    let whole = (digits as i64) as f64;
-    let over = power(places);
-    if minus {
+    let whole = (decimal.digits as i64) as f64;
+    let over = power(decimal.places);
+    if decimal.minus {
         return whole / -over;
     }
     whole / over
@@ -74,43 +73,47 @@ fn double(minus: bool, digits: u64, places: usize) -> f64
 
 // The double of a plain decimal, and its places.
 fn real_from(decimal: Decimal) -> Real
-    requires { specs.Limits decimal }
+    requires { specs.Few decimal }
     ensures { result ≡ specs.real_from decimal }
 {
-    match decimal {
-        Decimal::NotPlain => Real::NotR,
-        Decimal::Plain {
-            minus,
-            digits,
-            places,
-        } => Real::R(double(minus, digits, places), places as u8),
+    Real {
+        value: double(decimal),
+        places: decimal.places as u8,
     }
 }
 
 // The double of what was read of a word with three digits behind the point, if anything was.
-pub fn thousandths(code: u64) -> Real
+pub fn thousandths(code: u64) -> Option<Real>
     ensures { result ≡ specs.thousandths_of code }
 {
     if code == NONE {
-        return Real::NotR;
+        return None;
     }
     let digits = code % 65536 * 1000 + code / 0x1_0000_0000 % 65536;
-    Real::R(double(MINUS <= code, digits, 3), 3)
+    Some(real_from(Decimal {
+        minus: MINUS <= code,
+        digits,
+        places: 3,
+    }))
 }
 
 // The same with two digits, behind which a zero stood in the word.
-pub fn hundredths(code: u64) -> Real
+pub fn hundredths(code: u64) -> Option<Real>
     ensures { result ≡ specs.hundredths_of code }
 {
     if code == NONE {
-        return Real::NotR;
+        return None;
     }
     let digits = code % 65536 * 100 + code / 0x1_0000_0000 % 65536 / 10;
-    Real::R(double(MINUS <= code, digits, 2), 2)
+    Some(real_from(Decimal {
+        minus: MINUS <= code,
+        digits,
+        places: 2,
+    }))
 }
 
 // The double of a text whose point stands at a known place. Of any other text nothing is said.
-fn quick_real(text: &[u8]) -> Real
+fn quick_real(text: &[u8]) -> Option<Real>
     ensures { specs.SaysReal text.now result }
 {
     if text.len() == 8 {
@@ -119,16 +122,17 @@ fn quick_real(text: &[u8]) -> Real
     if text.len() == 6 {
         return hundredths(read_word(six(text)));
     }
-    Real::NotR
+    None
 }
 
-pub fn read_real(text: &[u8]) -> Real
+pub fn read_real(text: &[u8]) -> Option<Real>
     ensures { result ≡ specs.real_of text.now }
 {
-    match quick_real(text) {
-        Real::R(value, places) => Real::R(value, places),
-        Real::NotR => real_from(read_decimal(text)),
+    if let Some(real) = quick_real(text) {
+        return Some(real);
     }
+    let decimal = read_decimal(text)?;
+    Some(real_from(decimal))
 }
 
 // An integer made a double and divided by that of 10^4.
@@ -140,14 +144,12 @@ fn ten_thousandth(n: i64) -> f64
 }
 
 // An integer of up to seven columns, in ten-thousandths: more columns could say a number that no double holds.
-pub fn read_ten_thousandths(text: &[u8]) -> Real
+pub fn read_ten_thousandths(text: &[u8]) -> Option<f64>
     ensures { result ≡ specs.ten_thousandths_of text.now }
 {
     if 7 < text.len() {
-        return Real::NotR;
+        return None;
     }
-    match read_signed(text) {
-        Signed::NotI => Real::NotR,
-        Signed::I(n) => Real::R(ten_thousandth(n), 0),
-    }
+    let n = read_signed(text)?;
+    Some(ten_thousandth(n))
 }

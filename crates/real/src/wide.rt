@@ -2,11 +2,12 @@
 ghost use Rattle.std.specs.Prelude.{◌≡◌, ◌≤◌, ◌<◌, ◌^◌, pos};
 ghost use Rattle.std.specs.Float.{binary64};
 ghost use Rattle.std.specs.Float.Ieee.{of_int};
-ghost use Rattle.number.specs.Wide.{marked_of, WideLimits};
-ghost use Rattle.number.specs.declared.wide.Wide.TheVariants.{W};
+ghost use Rattle.number.specs.Wide.{marked_of};
+ghost use Rattle.real.specs.Real.{Few};
 ghost use Rattle.real.specs.Wide as specs;
 
 use crate::{Real, converted};
+use number::decimal::Decimal;
 use number::wide::{Wide, read_marked};
 
 // 10^k as a double: beyond 10^11 the product of two, which is exact.
@@ -21,79 +22,68 @@ fn ten(k: usize) -> f64
 }
 
 // M over 10^k, with its sign.
-fn over(minus: bool, digits: u64, k: usize) -> f64
-    requires digits_bound { digits < 10 ^ 10 }
+fn over(decimal: Decimal, k: usize) -> f64
+    requires few { Few decimal }
     requires k_bound { k ≤ 22 }
-    ensures { result ≡ specs.nearest_to minus digits 0 k }
+    ensures { result ≡ specs.nearest_to decimal.minus decimal.digits 0 k }
 {
-    let quotient = (digits as f64) / ten(k);
-    if minus {
+    let quotient = (decimal.digits as f64) / ten(k);
+    if decimal.minus {
         return -quotient;
     }
     quotient
 }
 
 // M times 10^k, with its sign.
-fn times(minus: bool, digits: u64, k: usize) -> f64
-    requires digits_bound { digits < 10 ^ 10 }
+fn times(decimal: Decimal, k: usize) -> f64
+    requires few { Few decimal }
     requires k_bound { k ≤ 22 }
-    ensures { result ≡ specs.nearest_to minus digits k 0 }
+    ensures { result ≡ specs.nearest_to decimal.minus decimal.digits k 0 }
 {
-    let product = (digits as f64) * ten(k);
-    if minus {
+    let product = (decimal.digits as f64) * ten(k);
+    if decimal.minus {
         return -product;
     }
     product
 }
 
 // The double of a number with an exponent, if that is in reach. An exponent over 31 is not, whatever the places are, unless M is 0.
-fn wide_double(minus: bool, digits: u64, places: u8, lower: bool, exponent: u64) -> Real
-    requires digits_bound { digits < 10 ^ 10 }
-    requires places_bound { places ≤ 9 }
-    ensures { result ≡ specs.wide_real (W minus digits places lower exponent) }
+fn wide_double(wide: Wide) -> Option<f64>
+    requires { Few wide.decimal }
+    ensures { result ≡ specs.wide_double wide }
 {
-    if digits == 0 {
-        return Real::R(over(minus, 0, 0), places);
+    let decimal = wide.decimal;
+    if decimal.digits == 0 {
+        return Some(over(decimal, 0));
     }
-    if 31 < exponent {
-        return Real::NotR;
+    if 31 < wide.exponent {
+        return None;
     }
-    let p = places as usize;
-    let x = exponent as usize;
-    if lower {
+    let p = decimal.places;
+    let x = wide.exponent as usize;
+    if wide.lower {
         if 22 < p + x {
-            return Real::NotR;
+            return None;
         }
-        return Real::R(over(minus, digits, p + x), places);
+        return Some(over(decimal, p + x));
     }
     if x <= p {
-        return Real::R(over(minus, digits, p - x), places);
+        return Some(over(decimal, p - x));
     }
     if 22 < x - p {
-        return Real::NotR;
+        return None;
     }
-    Real::R(times(minus, digits, x - p), places)
-}
-
-fn wide_real(wide: Wide) -> Real
-    requires { WideLimits wide }
-    ensures { result ≡ specs.wide_real wide }
-{
-    match wide {
-        Wide::NotW => Real::NotR,
-        Wide::W {
-            minus,
-            digits,
-            places,
-            lower,
-            exponent,
-        } => wide_double(minus, digits, places as u8, lower, exponent),
-    }
+    Some(times(decimal, x - p))
 }
 
 // What a text says with an exponent. Of a plain decimal nothing is said: who has the option on reads it as one first.
-pub fn read_exponent(text: &[u8]) -> Real
+pub fn read_exponent(text: &[u8]) -> Option<Real>
     ensures { result ≡ specs.wide_real (marked_of text.now) }
 {
-    wide_real(read_marked(text))
+    let wide = read_marked(text)?;
+    let value = wide_double(wide)?;
+    Some(Real {
+        value,
+        places: wide.decimal.places as u8,
+    })
 }

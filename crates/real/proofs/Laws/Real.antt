@@ -19,69 +19,68 @@ use lib.Dec.{T, eqb}
 use lib.IntN.{ℤ, pos, negsuc, nat_abs}
 use lib.Ieee.{Float, is_nan}
 use lib.Ieee.Scale.{finite}
+use Rattle.std.specs.Prelude.{Option, Some, None, option_map}
 use Rattle.number.specs.Whole.{signed_of}
-use Rattle.number.specs.Decimal.{decimal_of}
+use Rattle.number.specs.Decimal.{plain, decimal_of}
 use Rattle.number.specs.Word.{none, code_of, minus_in, front_in, behind_in, eight_of, six_of}
 use Rattle.real.specs.Double.{double_of}
 use Rattle.real.specs.Near.{Near}
-use Rattle.real.specs.Real.{real_from, real_of, ten_thousandth, ten_thousandths_of, Limits, SaysReal, thousandths_of, hundredths_of}
+use Rattle.real.specs.Real.{real, real_from, real_of, ten_thousandth, ten_thousandths_of, Few, SaysReal, thousandths_of, hundredths_of}
 use Rattle.real.specs.Sign.{below}
-use Rattle.number.specs.declared.whole.Signed.TheVariants.{I}
 use Rattle.number.specs.declared.decimal.Decimal.{Decimal}
-use Rattle.number.specs.declared.decimal.Decimal.TheVariants.{Plain, NotPlain}
-use Rattle.real.specs.declared.Real.TheVariants.{R, NotR}
+use Rattle.real.specs.declared.Real.{Real}
 use Rattle.real.proofs.Laws.Quotient.{integer-near, double-near}
 use Rattle.real.proofs.Laws.Tells.{near-tells, near_finite, near-number}
 use Rattle.number.proofs.Laws.Width.{signed-within, decimal_limits}
 use Rattle.number.proofs.Laws.Fixed.{eight_said, six-said}
 
 -- ---- plain decimals
-pub real-is : (t : List ℕ) {s : Bool} {m p : ℕ} → decimal_of t ≡ Plain s m p → real_of t ≡ R (double_of s m p) p
+pub real-is : (t : List ℕ) {s : Bool} {m p : ℕ} → decimal_of t ≡ Some (plain s m p) → real_of t ≡ Some (real (double_of s m p) p)
 unfolding real_of
 real-is t e = rw e refl
 
-pub real_not : (t : List ℕ) → (decimal_of t ≡ NotPlain → real_of t ≡ NotR) × (real_of t ≡ NotR → decimal_of t ≡ NotPlain)
+pub real_not : (t : List ℕ) → (decimal_of t ≡ None → real_of t ≡ None) × (real_of t ≡ None → decimal_of t ≡ None)
 unfolding real_of
 real_not t = (λ e. rw e refl, go (decimal_of t))
   where
-    go : (d : Decimal) → real_from d ≡ NotR → d ≡ NotPlain
-    go NotPlain e = refl
-    go (Plain s m p) e = cc
+    go : (d : Option Decimal) → option_map real_from d ≡ None → d ≡ None
+    go None e = refl
+    go (Some d) e = cc
 
-pub decimal-near : (t : List ℕ) {s : Bool} {m p : ℕ} → decimal_of t ≡ Plain s m p → Near s m p (double_of s m p)
+pub decimal-near : (t : List ℕ) {s : Bool} {m p : ℕ} → decimal_of t ≡ Some (plain s m p) → Near s m p (double_of s m p)
 decimal-near t {s} {m} {p} e = let l = decimal_limits t e in double-near s m p l.0 l.1
 
-pub real-near : (t : List ℕ) {x : Float} {p : ℕ} → real_of t ≡ R x p → (s : Bool) × (m : ℕ) × (decimal_of t ≡ Plain s m p) × Near s m p x
+pub real-near : (t : List ℕ) {x : Float} {p : ℕ} → real_of t ≡ Some (real x p) → (s : Bool) × (m : ℕ) × (decimal_of t ≡ Some (plain s m p)) × Near s m p x
 unfolding real_of
 real-near t {x} {p} e = go (decimal_of t) refl e
   where
-    go : (d : Decimal) → decimal_of t ≡ d → real_from d ≡ R x p → (s : Bool) × (m : ℕ) × (decimal_of t ≡ Plain s m p) × Near s m p x
-    go NotPlain d e = absurd (let z : ◌≡◌ {A = ℕ} 0 1 = cc in omega arith)
-    go (Plain s m q) d e =
-        let same : double_of s m q ≡ x = cc in
-        let places : q ≡ p = cc in
-        (s, m, rw places at d, rw (same, places) at (decimal-near t d))
+    go : (d : Option Decimal) → decimal_of t ≡ d → option_map real_from d ≡ Some (real x p) → (s : Bool) × (m : ℕ) × (decimal_of t ≡ Some (plain s m p)) × Near s m p x
+    go None d e = absurd (let z : ◌≡◌ {A = ℕ} 0 1 = cc in omega arith)
+    go (Some n) d e =
+        let both : real_from n ≡ real x p = cc in
+        let same = ap (λ (r : Real). r.value) both in
+        let places = ap (λ (r : Real). r.places) both in
+        (n.minus, n.digits, rw places at d, rw (same, places) at (decimal-near t d))
 
-pub real_finite : (t : List ℕ) {x : Float} {p : ℕ} → real_of t ≡ R x p → T (finite x) × T (not (is_nan x))
+pub real_finite : (t : List ℕ) {x : Float} {p : ℕ} → real_of t ≡ Some (real x p) → T (finite x) × T (not (is_nan x))
 real_finite t e = let (s, m, d, near) = real-near t e in (near_finite near, near-number near)
 
-pub reals_tell : (t u : List ℕ) {s r : Bool} {m n p q : ℕ} → decimal_of t ≡ Plain s m p → decimal_of u ≡ Plain r n q
+pub reals_tell : (t u : List ℕ) {s r : Bool} {m n p q : ℕ} → decimal_of t ≡ Some (plain s m p) → decimal_of u ≡ Some (plain r n q)
     → double_of s m p ≡ double_of r n q → (s ≡ r) × (m * 10 ^ q ≡ n * 10 ^ p)
 reals_tell t u {s} {r} {m} {n} {p} {q} d e same =
     let other = rw (sym same) at (decimal-near u e) in
     near-tells s r m n p q (double_of s m p) (decimal-near t d) other (decimal_limits t d).0 (decimal_limits u e).0
 
 -- ---- what was read
-pub decimal-within : (t : List ℕ) (d : Decimal) → d ≡ decimal_of t → Limits d
-decimal-within t (Plain s m p) e = decimal_limits t (sym e)
-decimal-within t NotPlain e = tt
+pub decimal-within : (t : List ℕ) {d : Decimal} → decimal_of t ≡ Some d → Few d
+decimal-within t e = decimal_limits t e
 
 pub eight_real : (t : List ℕ) → SaysReal t (thousandths_of (code_of (eight_of t)))
 unfolding thousandths_of
 eight_real t = go (eqb (code_of (eight_of t)) none) refl
   where
     go : (b : Bool) → let c = code_of (eight_of t) in eqb c none ≡ b
-        → SaysReal t (cond b NotR (R (double_of (minus_in c) (front_in c * 1000 + behind_in c) 3) 3))
+        → SaysReal t (cond b None (Some (real_from (plain (minus_in c) (front_in c * 1000 + behind_in c) 3))))
     go true e = tt
     go false e = real-is t (eight_said t e)
 
@@ -90,13 +89,13 @@ unfolding hundredths_of
 six-real t = go (eqb (code_of (six_of t)) none) refl
   where
     go : (b : Bool) → let c = code_of (six_of t) in eqb c none ≡ b
-        → SaysReal t (cond b NotR (R (double_of (minus_in c) (front_in c * 100 + behind_in c / 10) 2) 2))
+        → SaysReal t (cond b None (Some (real_from (plain (minus_in c) (front_in c * 100 + behind_in c / 10) 2))))
     go true e = tt
     go false e = real-is t (six-said t e)
 
 -- ---- ten-thousandths
-pub ten_thousandths_near : (t : List ℕ) {z : ℤ} → signed_of t ≡ I z → length t ≤ 7
-    → (ten_thousandths_of t ≡ R (ten_thousandth z) 0) × Near (below z) (nat_abs z) 4 (ten_thousandth z)
+pub ten_thousandths_near : (t : List ℕ) {z : ℤ} → signed_of t ≡ Some z → length t ≤ 7
+    → (ten_thousandths_of t ≡ Some (ten_thousandth z)) × Near (below z) (nat_abs z) 4 (ten_thousandth z)
 unfolding ten_thousandths_of
 ten_thousandths_near t {z} e w = (rw (le-leb (length t) 7 w, e) refl, integer-near z (signed-within t e 10 (omega arith)))
 

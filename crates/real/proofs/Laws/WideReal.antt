@@ -1,4 +1,4 @@
--- What a text says as R by the option.
+-- What a text says as Some (real by the) option.
 --     off-is, on-is           with the option off it is what it was; with it on, a plain decimal is read the same
 --     marked-is               and what is no plain decimal is read with its exponent
 --     Said, with-said         a text that says a number has its double: near the number, and no double is nearer
@@ -19,22 +19,20 @@ use mathlib.Core.List.{List}
 use lib.Dec.{T, leb, eqb, eqb-suc-zero}
 use lib.Ieee.{Float, binary64, fits}
 use lib.Ieee.Fits.{round-fits}
-use Rattle.number.specs.Decimal.{decimal_of}
-use Rattle.number.specs.Wide.{marked_of, without_mark, wide_of, WideLimits}
+use Rattle.std.specs.Prelude.{Option, Some, None, option_map}
+use Rattle.number.specs.Decimal.{plain, decimal_of}
+use Rattle.number.specs.Wide.{wide, marked_of, without_mark, wide_of, WideLimits}
 use Rattle.number.specs.declared.decimal.Decimal.{Decimal}
-use Rattle.number.specs.declared.decimal.Decimal.TheVariants.{Plain, NotPlain}
 use Rattle.number.specs.declared.wide.Wide.{Wide}
-use Rattle.number.specs.declared.wide.Wide.TheVariants.{W, NotW}
 use Rattle.number.proofs.Laws.Choice.{and_left, and_right, chosen}
 use Rattle.number.proofs.Laws.Width.{decimal_limits}
 use Rattle.number.proofs.Laws.Wide.{wide_limits}
 use Rattle.real.specs.Double.{double_of}
 use Rattle.real.specs.Near.{NearOver, apart}
 use Rattle.real.specs.Nearest.{NearestDouble}
-use Rattle.real.specs.Real.{real_of}
-use Rattle.real.specs.Wide.{raised, lowered, nearest_to, in_reach, within, doubled, wide_real, real_with, said_with, scale_with, Low, High, Close, NearWritten}
+use Rattle.real.specs.Real.{real, real_of}
+use Rattle.real.specs.Wide.{raised, lowered, nearest_to, in_reach, raised_in, lowered_in, wide_double, within, doubled, wide_real, real_with, said_with, scale_with, Low, High, Close, NearWritten}
 use Rattle.real.specs.declared.Real.{Real}
-use Rattle.real.specs.declared.Real.TheVariants.{R, NotR}
 use Rattle.real.proofs.Laws.Quotient.{ten_pos, double-near}
 use Rattle.real.proofs.Laws.Real.{real-near, real-is, real_not}
 use Rattle.real.proofs.Laws.Tells.{wide-tells, near-finer}
@@ -42,48 +40,48 @@ use Rattle.real.proofs.Laws.Wide.{zero-nearest, over-nearest, wide-near, wide-ne
 
 -- ---- the double, by the two powers of ten
 -- what is read of a number with the powers a and b
-abbrev read_by : Bool → ℕ → ℕ → ℕ → ℕ → Real
-read_by s m p a b = cond (in_reach m a b) (R (nearest_to s m a b) p) NotR
+abbrev read_by : Bool → ℕ → ℕ → ℕ → ℕ → Option Real
+read_by s m p a b = cond (in_reach m a b) (Some (real (nearest_to s m a b) p)) None
 
-within-is : (s : Bool) (m p : ℕ) (lower : Bool) (x : ℕ) → wide_real (W s m p lower x) ≡ read_by s m p (raised lower x p) (lowered lower x p)
+within-is : (s : Bool) (m p : ℕ) (lower : Bool) (x : ℕ) → wide_real (Some (wide (plain s m p) lower x)) ≡ read_by s m p (raised lower x p) (lowered lower x p)
 within-is s m p lower x = go (in_reach m (raised lower x p) (lowered lower x p))
   where
-    go : (q : Bool) → doubled (cond q (W s m p lower x) NotW) ≡ cond q (R (nearest_to s m (raised lower x p) (lowered lower x p)) p) NotR
+    go : (q : Bool) → doubled (cond q (Some (wide (plain s m p) lower x)) None) ≡ cond q (Some (real (nearest_to s m (raised lower x p) (lowered lower x p)) p)) None
     go true = refl
     go false = refl
 
 module _ (s : Bool) (m p : ℕ) (lower : Bool) (x a b : ℕ) (e : raised lower x p ≡ a) (f : lowered lower x p ≡ b) where
-  by_powers : wide_real (W s m p lower x) ≡ read_by s m p a b
+  by_powers : wide_real (Some (wide (plain s m p) lower x)) ≡ read_by s m p a b
   by_powers = within-is s m p lower x ∙ ap (λ (a : ℕ). read_by s m p a (lowered lower x p)) e ∙ ap (λ (b : ℕ). read_by s m p a b) f
 
-  wide_is : a ≤ 22 → b ≤ 22 → wide_real (W s m p lower x) ≡ R (nearest_to s m a b) p
+  wide_is : a ≤ 22 → b ≤ 22 → wide_real (Some (wide (plain s m p) lower x)) ≡ Some (real (nearest_to s m a b) p)
   wide_is h i = by_powers ∙ rw (le-leb a 22 h, le-leb b 22 i) (either (eqb m 0))
     where
-      either : (q : Bool) → cond (q || true) (R (nearest_to s m a b) p) NotR ≡ R (nearest_to s m a b) p
+      either : (q : Bool) → cond (q || true) (Some (real (nearest_to s m a b) p)) None ≡ Some (real (nearest_to s m a b) p)
       either true = refl
       either false = refl
 
-  wide_far : (m ≡ 0 → ⊥) → leb a 22 && leb b 22 ≡ false → wide_real (W s m p lower x) ≡ NotR
+  wide_far : (m ≡ 0 → ⊥) → leb a 22 && leb b 22 ≡ false → wide_real (Some (wide (plain s m p) lower x)) ≡ None
   wide_far M h = by_powers ∙ rw (ne_eqb m 0 M, h) refl
 
-pub wide-zero : (s : Bool) (m p : ℕ) (lower : Bool) (x : ℕ) → m ≡ 0 → wide_real (W s m p lower x) ≡ R (nearest_to s 0 0 0) p
-wide-zero s m p lower x e = rw e (ap (λ (y : Float). R y p) (zero-nearest s (raised lower x p) (lowered lower x p)))
+pub wide-zero : (s : Bool) (m p : ℕ) (lower : Bool) (x : ℕ) → m ≡ 0 → wide_real (Some (wide (plain s m p) lower x)) ≡ Some (real (nearest_to s 0 0 0) p)
+wide-zero s m p lower x e = rw e (ap (λ (y : Float). Some (real y p)) (zero-nearest s (raised lower x p) (lowered lower x p)))
 
 -- ---- a plain decimal is one with the exponent 0
 plain-nearest : (s : Bool) (m p : ℕ) → m < 10 ^ 10 → p ≤ 9 → double_of s m p ≡ nearest_to s m 0 p
 unfolding double_of
 plain-nearest s m p few short = over-nearest s m p few (omega arith)
 
-plain-wide : (s : Bool) (m p : ℕ) → m < 10 ^ 10 → p ≤ 9 → wide_real (W s m p false 0) ≡ R (double_of s m p) p
+plain-wide : (s : Bool) (m p : ℕ) → m < 10 ^ 10 → p ≤ 9 → wide_real (Some (wide (plain s m p) false 0)) ≡ Some (real (double_of s m p) p)
 plain-wide s m p few short =
     wide_is s m p false 0 0 p (omega arith) (omega arith) (omega arith) (omega arith)
-    ∙ ap (λ (y : Float). R y p) (sym (plain-nearest s m p few short))
+    ∙ ap (λ (y : Float). Some (real y p)) (sym (plain-nearest s m p few short))
 
 pub off-is : (t : List ℕ) → real_with false t ≡ real_of t
 unfolding real_with
 off-is t = refl
 
-pub on-is : (t : List ℕ) {x : Float} {p : ℕ} → real_of t ≡ R x p → (on : Bool) → real_with on t ≡ R x p
+pub on-is : (t : List ℕ) {x : Float} {p : ℕ} → real_of t ≡ Some (real x p) → (on : Bool) → real_with on t ≡ Some (real x p)
 unfolding real_with wide_of
 on-is t e false = e
 on-is t {x} {p} e true =
@@ -91,7 +89,7 @@ on-is t {x} {p} e true =
     let l = decimal_limits t d in
     rw d (plain-wide s m p l.0 l.1) ∙ sym (real-is t d) ∙ e
 
-pub marked-is : (t : List ℕ) → real_of t ≡ NotR → real_with true t ≡ wide_real (marked_of t)
+pub marked-is : (t : List ℕ) → real_of t ≡ None → real_with true t ≡ wide_real (marked_of t)
 unfolding real_with wide_of
 marked-is t e = rw ((real_not t).1 e) refl
 
@@ -113,7 +111,7 @@ nearest-held s m a b = round-fits binary64 s (m * 10 ^ a) (10 ^ b)
 -- a text says a number with the sign s, M, p and x, and its double is y
 pub record Said (on : Bool) (t : List ℕ) (s : Bool) (m p : ℕ) (lower : Bool) (x : ℕ) : Type 0 where
   pub double : Float
-  pub is : real_with on t ≡ R double p
+  pub is : real_with on t ≡ Some (real double p)
   pub few : m < 10 ^ 10
   pub short : p ≤ 9
   pub high : (m ≡ 0 → ⊥) → raised lower x p ≤ 22
@@ -135,7 +133,7 @@ plain_over {m = m} {p} h = rw (plain-raised p, plain-lowered p, mul-one m) h
 pub over_plain : {t : ℕ} {s : Bool} {m p : ℕ} {y : Float} → NearOver t s (m * 10 ^ raised false 0 p) (lowered false 0 p) y → NearOver t s m p y
 over_plain {m = m} {p} h = rw (plain-raised p, plain-lowered p, mul-one m) at h
 
-plain-said : (t : List ℕ) {s : Bool} {m p : ℕ} → decimal_of t ≡ Plain s m p → Said false t s m p false 0
+plain-said : (t : List ℕ) {s : Bool} {m p : ℕ} → decimal_of t ≡ Some (plain s m p) → Said false t s m p false 0
 plain-said t {s} {m} {p} e =
     let l = decimal_limits t e in
     let same = plain-nearest s m p l.0 l.1 in
@@ -150,20 +148,20 @@ plain-said t {s} {m} {p} e =
       nearest = rw (plain-raised p, plain-lowered p, same) (wide-nearest s m 0 p l.0 (omega arith) (omega arith));
     }
 
-wide-said : (t : List ℕ) {s : Bool} {m p : ℕ} {lower : Bool} {x : ℕ} → within (wide_of t) ≡ W s m p lower x → Said true t s m p lower x
+wide-said : (t : List ℕ) {s : Bool} {m p : ℕ} {lower : Bool} {x : ℕ} → within (wide_of t) ≡ Some (wide (plain s m p) lower x) → Said true t s m p lower x
 unfolding real_with
 wide-said t {s} {m} {p} {lower} {x} e = go (wide_of t) refl (wide_limits t) e
   where
-    go : (w : Wide) → wide_of t ≡ w → WideLimits w → within w ≡ W s m p lower x → Said true t s m p lower x
-    go NotW d l e = absurd (let z : ◌≡◌ {A = ℕ} 0 1 = cc in omega arith)
-    go (W s' m' p' lower' x') d l e =
-        let q = in_reach m' (raised lower' x' p') (lowered lower' x' p') in
-        let (c, r) = chosen q (W s' m' p' lower' x') NotW e (λ q. cc) in
-        let sign : s' ≡ s = cc in
-        let digits : m' ≡ m = cc in
-        let places : p' ≡ p = cc in
-        let low : lower' ≡ lower = cc in
-        let exponent : x' ≡ x = cc in
+    go : (w : Option Wide) → wide_of t ≡ w → WideLimits w → within w ≡ Some (wide (plain s m p) lower x) → Said true t s m p lower x
+    go None d l e = absurd (let z : ◌≡◌ {A = ℕ} 0 1 = cc in omega arith)
+    go (Some v) d l e =
+        let q = in_reach v.decimal.digits (raised_in v) (lowered_in v) in
+        let (c, r) = chosen q (Some v) None e (λ q. cc) in
+        let same : v ≡ wide (plain s m p) lower x = cc in
+        let digits = ap (λ (v : Wide). v.decimal.digits) same in
+        let places = ap (λ (v : Wide). v.decimal.places) same in
+        let low = ap (λ (v : Wide). v.lower) same in
+        let exponent = ap (λ (v : Wide). v.exponent) same in
         let a = raised lower x p in
         let b = lowered lower x p in
         let reach : in_reach m a b ≡ true = rw (digits, places, low, exponent) at c in
@@ -180,29 +178,30 @@ wide-said t {s} {m} {p} {lower} {x} e = go (wide_of t) refl (wide_limits t) e
           nearest = nearest;
         }
 
-pub with-said : (on : Bool) (t : List ℕ) {s : Bool} {m p : ℕ} {lower : Bool} {x : ℕ} → said_with on t ≡ W s m p lower x
+pub with-said : (on : Bool) (t : List ℕ) {s : Bool} {m p : ℕ} {lower : Bool} {x : ℕ} → said_with on t ≡ Some (wide (plain s m p) lower x)
     → Said on t s m p lower x
 with-said true t e = wide-said t e
 with-said false t {s} {m} {p} {lower} {x} e = go (decimal_of t) refl e
   where
-    go : (d : Decimal) → decimal_of t ≡ d → without_mark d NotW ≡ W s m p lower x → Said false t s m p lower x
-    go NotPlain d e = absurd (let z : ◌≡◌ {A = ℕ} 0 1 = cc in omega arith)
-    go (Plain s' m' p') d e =
-        let sign : s' ≡ s = cc in
-        let digits : m' ≡ m = cc in
-        let places : p' ≡ p = cc in
-        let low : false ≡ lower = cc in
-        let exponent : ◌≡◌ {A = ℕ} 0 x = cc in
+    go : (d : Option Decimal) → decimal_of t ≡ d → without_mark d None ≡ Some (wide (plain s m p) lower x) → Said false t s m p lower x
+    go None d e = absurd (let z : ◌≡◌ {A = ℕ} 0 1 = cc in omega arith)
+    go (Some n) d e =
+        let same : wide n false 0 ≡ wide (plain s m p) lower x = cc in
+        let sign = ap (λ (v : Wide). v.decimal.minus) same in
+        let digits = ap (λ (v : Wide). v.decimal.digits) same in
+        let places = ap (λ (v : Wide). v.decimal.places) same in
+        let low = ap (λ (v : Wide). v.lower) same in
+        let exponent = ap (λ (v : Wide). v.exponent) same in
         rw (← sign, ← digits, ← places, ← low, ← exponent) (plain-said t d)
 
-pub with_not : (on : Bool) (t : List ℕ) → said_with on t ≡ NotW → real_with on t ≡ NotR
+pub with_not : (on : Bool) (t : List ℕ) → said_with on t ≡ None → real_with on t ≡ None
 unfolding real_with
 with_not true t e = ap doubled e
 with_not false t e = (real_not t).0 (go (decimal_of t) e)
   where
-    go : (d : Decimal) → without_mark d NotW ≡ NotW → d ≡ NotPlain
-    go NotPlain e = refl
-    go (Plain s m p) e = cc
+    go : (d : Option Decimal) → without_mark d None ≡ None → d ≡ None
+    go None e = refl
+    go (Some d) e = cc
 
 -- what a text says whose double is v, with the places p
 pub record Saying (on : Bool) (t : List ℕ) (y : Float) (p : ℕ) : Type 0 where
@@ -210,20 +209,21 @@ pub record Saying (on : Bool) (t : List ℕ) (y : Float) (p : ℕ) : Type 0 wher
   pub m : ℕ
   pub lower : Bool
   pub x : ℕ
-  pub says : said_with on t ≡ W is_minus m p lower x
+  pub says : said_with on t ≡ Some (wide (plain is_minus m p) lower x)
   pub few : m < 10 ^ 10
   pub short : p ≤ 9
   pub high : (m ≡ 0 → ⊥) → raised lower x p ≤ 22
   pub near : NearOver (scale_with on) is_minus (m * 10 ^ raised lower x p) (lowered lower x p) y
 
-pub with-is : (on : Bool) (t : List ℕ) {y : Float} {p : ℕ} → real_with on t ≡ R y p → Saying on t y p
+pub with-is : (on : Bool) (t : List ℕ) {y : Float} {p : ℕ} → real_with on t ≡ Some (real y p) → Saying on t y p
 with-is on t {y} {p} e = go (said_with on t) refl
   where
-    of : (s : Bool) (m q : ℕ) (lower : Bool) (x : ℕ) (v : Float) → said_with on t ≡ W s m q lower x → real_with on t ≡ R v q → m < 10 ^ 10 → q ≤ 9
+    of : (s : Bool) (m q : ℕ) (lower : Bool) (x : ℕ) (v : Float) → said_with on t ≡ Some (wide (plain s m q) lower x) → real_with on t ≡ Some (real v q) → m < 10 ^ 10 → q ≤ 9
         → ((m ≡ 0 → ⊥) → raised lower x q ≤ 22) → NearOver (scale_with on) s (m * 10 ^ raised lower x q) (lowered lower x q) v → Saying on t y p
     of s m q lower x v says is few short high near =
-        let same : v ≡ y = cc in
-        let places : q ≡ p = cc in
+        let both : real v q ≡ real y p = cc in
+        let same = ap (λ (r : Real). r.value) both in
+        let places = ap (λ (r : Real). r.places) both in
         record {
           is_minus = s;
           m = m;
@@ -236,12 +236,13 @@ with-is on t {y} {p} e = go (said_with on t) refl
           near = rw (places, same) at near;
         }
 
-    go : (w : Wide) → said_with on t ≡ w → Saying on t y p
-    go NotW d = absurd (let n = with_not on t d in let z : ◌≡◌ {A = ℕ} 0 1 = cc in omega arith)
-    go (W s m q lower x) d =
-        let h = with-said on t d in of s m q lower x h.double d h.is h.few h.short h.high h.near
+    go : (w : Option Wide) → said_with on t ≡ w → Saying on t y p
+    go None d = absurd (let n = with_not on t d in let z : ◌≡◌ {A = ℕ} 0 1 = cc in omega arith)
+    go (Some w) d =
+        let n = w.decimal in
+        let h = with-said on t d in of n.minus n.digits n.places w.lower w.exponent h.double d h.is h.few h.short h.high h.near
 
-pub with-few : (on : Bool) (t : List ℕ) {y : Float} {p : ℕ} → real_with on t ≡ R y p → p ≤ 9
+pub with-few : (on : Bool) (t : List ℕ) {y : Float} {p : ℕ} → real_with on t ≡ Some (real y p) → p ≤ 9
 with-few on t e = (with-is on t e).short
 
 -- ---- in the three forms
@@ -285,31 +286,43 @@ said-tells on one s r m n a b c d y h k few less = wide-tells 126 s r m n a b c 
 
 -- ---- the double, by the tests that the code makes
 module _ (s : Bool) (m p : ℕ) (lower : Bool) (x : ℕ) where
-  pub at_zero : (r : Float) → m ≡ 0 → r ≡ nearest_to s 0 0 0 → R r p ≡ wide_real (W s m p lower x)
-  at_zero r e f = ap (λ (y : Float). R y p) f ∙ sym (wide-zero s m p lower x e)
+  pub at_zero : (r : Float) → m ≡ 0 → r ≡ nearest_to s 0 0 0 → Some (real r p) ≡ wide_real (Some (wide (plain s m p) lower x))
+  at_zero r e f = ap (λ (y : Float). Some (real y p)) f ∙ sym (wide-zero s m p lower x e)
 
-  far_by : (l : Bool) → (m ≡ 0 → ⊥) → p ≤ 9 → 31 < x → NotR ≡ wide_real (W s m p l x)
+  far_by : (l : Bool) → (m ≡ 0 → ⊥) → p ≤ 9 → 31 < x → None ≡ wide_real (Some (wide (plain s m p) l x))
   far_by true M short h =
       sym (wide_far s m p true x 0 (p + x) refl refl M (lt-leb (p + x) 22 (omega arith)))
   far_by false M short h =
       sym (wide_far s m p false x (x - p) (p - x) refl refl M (rw (lt-leb (x - p) 22 (omega arith)) refl))
 
-  pub at_far : (m ≡ 0 → ⊥) → p ≤ 9 → 31 < x → NotR ≡ wide_real (W s m p lower x)
+  pub at_far : (m ≡ 0 → ⊥) → p ≤ 9 → 31 < x → None ≡ wide_real (Some (wide (plain s m p) lower x))
   at_far = far_by lower
 
   module _ (e : lower ≡ true) where
-    pub lower_far : (m ≡ 0 → ⊥) → 22 < p + x → NotR ≡ wide_real (W s m p lower x)
+    pub lower_far : (m ≡ 0 → ⊥) → 22 < p + x → None ≡ wide_real (Some (wide (plain s m p) lower x))
     lower_far M h = rw e (sym (wide_far s m p true x 0 (p + x) refl refl M (lt-leb (p + x) 22 h)))
 
-    pub lower-near : (r : Float) → p + x ≤ 22 → r ≡ nearest_to s m 0 (p + x) → R r p ≡ wide_real (W s m p lower x)
-    lower-near r h f = rw e (ap (λ (y : Float). R y p) f ∙ sym (wide_is s m p true x 0 (p + x) refl refl (omega arith) h))
+    pub lower-near : (r : Float) → p + x ≤ 22 → r ≡ nearest_to s m 0 (p + x) → Some (real r p) ≡ wide_real (Some (wide (plain s m p) lower x))
+    lower-near r h f = rw e (ap (λ (y : Float). Some (real y p)) f ∙ sym (wide_is s m p true x 0 (p + x) refl refl (omega arith) h))
 
   module _ (e : lower ≡ false) where
-    pub higher_far : (m ≡ 0 → ⊥) → 22 < x - p → NotR ≡ wide_real (W s m p lower x)
+    pub higher_far : (m ≡ 0 → ⊥) → 22 < x - p → None ≡ wide_real (Some (wide (plain s m p) lower x))
     higher_far M h = rw e (sym (wide_far s m p false x (x - p) (p - x) refl refl M (rw (lt-leb (x - p) 22 h) refl)))
 
-    pub higher_over : (r : Float) → x ≤ p → p ≤ 9 → r ≡ nearest_to s m 0 (p - x) → R r p ≡ wide_real (W s m p lower x)
-    higher_over r h short f = rw e (ap (λ (y : Float). R y p) f ∙ sym (wide_is s m p false x 0 (p - x) (omega arith) refl (omega arith) (omega arith)))
+    pub higher_over : (r : Float) → x ≤ p → p ≤ 9 → r ≡ nearest_to s m 0 (p - x) → Some (real r p) ≡ wide_real (Some (wide (plain s m p) lower x))
+    higher_over r h short f = rw e (ap (λ (y : Float). Some (real y p)) f ∙ sym (wide_is s m p false x 0 (p - x) (omega arith) refl (omega arith) (omega arith)))
 
-    pub higher_times : (r : Float) → p < x → x - p ≤ 22 → r ≡ nearest_to s m (x - p) 0 → R r p ≡ wide_real (W s m p lower x)
-    higher_times r h i f = rw e (ap (λ (y : Float). R y p) f ∙ sym (wide_is s m p false x (x - p) 0 refl (omega arith) i (omega arith)))
+    pub higher_times : (r : Float) → p < x → x - p ≤ 22 → r ≡ nearest_to s m (x - p) 0 → Some (real r p) ≡ wide_real (Some (wide (plain s m p) lower x))
+    higher_times r h i f = rw e (ap (λ (y : Float). Some (real y p)) f ∙ sym (wide_is s m p false x (x - p) 0 refl (omega arith) i (omega arith)))
+
+-- ---- the double alone, and with the places
+pub double_by : {r : Option Real} (w : Wide) → r ≡ wide_real (Some w) → option_map (λ (r : Real). r.value) r ≡ wide_double w
+double_by w e = ap (option_map (λ (r : Real). r.value)) e
+
+pub double_real : (w : Wide) → option_map (λ (v : Float). real v w.decimal.places) (wide_double w) ≡ wide_real (Some w)
+double_real w = go (in_reach w.decimal.digits (raised_in w) (lowered_in w))
+  where
+    go : (q : Bool) → option_map (λ (v : Float). real v w.decimal.places) (option_map (λ (r : Real). r.value) (doubled (cond q (Some w) None)))
+        ≡ doubled (cond q (Some w) None)
+    go true = refl
+    go false = refl

@@ -13,15 +13,15 @@ use Rattle.real.specs.Double.{double_of}
 use Rattle.real.proofs.double.Goals as goal
 
 pub int_to_float-whole : goal.int_to_float-whole
-int_to_float-whole c = let m = c.args.digits in rw (to_z_pos w64 {n = m} (omega arith)) (integer_in (pos m) (omega arith))
+int_to_float-whole c = let m = c.args.decimal.digits in rw (to_z_pos w64 {n = m} (omega arith)) (integer_in (pos m) (omega arith))
 
-pub returns-then-minus : goal.returns-then-minus
+pub returns-then-decimal : goal.returns-then-decimal
 unfolding double_of
-returns-then-minus c =
-    let a = c.args in
-    rw (to_z_pos w64 {n = a.digits} (omega arith), c.if-minus.true, c.power-over.ensures)
+returns-then-decimal c =
+    let a = c.args.decimal in
+    rw (to_z_pos w64 {n = a.digits} (omega arith), c.if-decimal.true, c.power-over.ensures)
     (div_turned binary64 (of_int binary64 (pos a.digits)) (of_int binary64 (pos (10 ^ a.places))))
 
 pub returns : goal.returns
 unfolding double_of
-returns c = rw (to_z_pos w64 {n = c.args.digits} (omega arith), c.if-minus.false, c.power-over.ensures) refl
+returns c = rw (to_z_pos w64 {n = c.args.decimal.digits} (omega arith), c.if-decimal.false, c.power-over.ensures) refl

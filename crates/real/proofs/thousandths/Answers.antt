@@ -12,4 +12,4 @@ returns-then-code-eq-NONE c = rw c.if-code-eq-NONE.true refl
 
 pub returns : goal.returns
 unfolding thousandths_of
-returns c = rw (ne_eqb c.args.code none c.if-code-eq-NONE.false, c.double.ensures) refl
+returns c = rw (ne_eqb c.args.code none c.if-code-eq-NONE.false, c.real_from.ensures) refl

@@ -8,8 +8,8 @@ use Rattle.real.proofs.wide.over.Goals as goal
 pub int_to_float-quotient : goal.int_to_float-quotient
 int_to_float-quotient c = few_in _ (omega arith)
 
-pub returns-then-minus : goal.returns-then-minus
-returns-then-minus c = rw (c.ten.ensures, c.if-minus.true) (over-nearest true _ _ (omega arith) (omega arith))
+pub returns-then-decimal : goal.returns-then-decimal
+returns-then-decimal c = rw (c.ten.ensures, c.if-decimal.true) (over-nearest true _ _ (omega arith) (omega arith))
 
 pub returns : goal.returns
-returns c = rw (c.ten.ensures, c.if-minus.false) (over-nearest false _ _ (omega arith) (omega arith))
+returns c = rw (c.ten.ensures, c.if-decimal.false) (over-nearest false _ _ (omega arith) (omega arith))

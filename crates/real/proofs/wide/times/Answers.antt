@@ -8,8 +8,8 @@ use Rattle.real.proofs.wide.times.Goals as goal
 pub int_to_float-product : goal.int_to_float-product
 int_to_float-product c = few_in _ (omega arith)
 
-pub returns-then-minus : goal.returns-then-minus
-returns-then-minus c = rw (c.ten.ensures, c.if-minus.true) (times_nearest true _ _ (omega arith) (omega arith))
+pub returns-then-decimal : goal.returns-then-decimal
+returns-then-decimal c = rw (c.ten.ensures, c.if-decimal.true) (times_nearest true _ _ (omega arith) (omega arith))
 
 pub returns : goal.returns
-returns c = rw (c.ten.ensures, c.if-minus.false) (times_nearest false _ _ (omega arith) (omega arith))
+returns c = rw (c.ten.ensures, c.if-decimal.false) (times_nearest false _ _ (omega arith) (omega arith))
