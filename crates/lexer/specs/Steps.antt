@@ -1,11 +1,10 @@
 -- The words of the helpers, which take the refusals in the code's own steps. No rule of 01 is here: `lex_line` is proved to answer `lexed`, and so
 -- for the other entries.
-use Rattle.std.specs.Prelude.{ℕ, ◌-◌, Bool, cond, not, ◌&&◌, List, [], ◌∷◌, length, ltb, leb, eqb}
+use Rattle.std.specs.Prelude.{ℕ, ◌-◌, Bool, cond, not, ◌&&◌, List, [], ◌∷◌, length, ltb, leb, eqb, Ok, Err}
 use Rattle.number.specs.Trim.{kept}
 use Rattle.kind.specs.declared.Kind.{Kind}
 use Rattle.line.specs.Given.{Given}
 use Rattle.lexitem.specs.declared.answer.Answer.{Answer}
-use Rattle.lexitem.specs.declared.answer.Outcome.TheVariants.{Accepted, Refused}
 use Rattle.lexitem.specs.declared.answer.Refusal.{Refusal}
 use Rattle.lexitem.specs.Answer.{refusal}
 use Rattle.lexitem.specs.Describe.{bound_of}
@@ -51,10 +50,10 @@ own_refusal (bound.Least n) l loose = least_refusal n l
 own_refusal bound.Free l loose = no_refusal
 
 abbrev pub refused_with : ℕ → Refusal → Answer
-refused_with line r = record { line = line; outcome = Refused r; faults = no_line_faults }
+refused_with line r = record { line = line; outcome = Err r; faults = no_line_faults }
 
 abbrev pub answer_of : ℕ → Kind → GotItem → Answer
-answer_of line k x = record { line = line; outcome = Accepted x.value; faults = stamped_as line k x.faults }
+answer_of line k x = record { line = line; outcome = Ok x.value; faults = stamped_as line k x.faults }
 
 unfoldable pub read_as : ℕ → Kind → Given → Answer
 read_as line k g =

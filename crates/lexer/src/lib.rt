@@ -14,7 +14,7 @@ use crate::bound::own_refusal;
 use atom::read::lex_atom;
 use kind::numbered::number_of;
 use kind::{Kind, kind_of};
-use lexitem::answer::{Answer, Outcome, Refusal};
+use lexitem::answer::{Answer, Refusal};
 use lexitem::bound::bound_of;
 use lexitem::fault::LineFaults;
 use lexitem::read::{GotItem, lex_as};
@@ -141,7 +141,7 @@ fn refuse(line: usize, refusal: Refusal) -> Answer
 {
     Answer {
         line,
-        outcome: Outcome::Refused(refusal),
+        outcome: Err(refusal),
         faults: LineFaults::none(),
     }
 }
@@ -154,7 +154,7 @@ fn accept(line: usize, kind: Kind, got: GotItem) -> Answer
     let item = got.value;
     Answer {
         line,
-        outcome: Outcome::Accepted(item),
+        outcome: Ok(item),
         faults: LineFaults::of(line, kind, faults),
     }
 }
@@ -189,23 +189,16 @@ fn read_as(line: &[u8], number: usize, kind: Kind, options: Options, remarks: &[
     lex_kind(number, kind, line, options, remarks)
 }
 
-// What asking for the kind of a line answers.
-#[derive(Clone, Copy)]
-pub enum Asked {
-    Is(Kind),
-    Refused(Refusal),
-}
-
 // The kind of a line of any bytes, without reading it.
-pub fn kind_line(line: &[u8], options: Options) -> Asked
+pub fn kind_line(line: &[u8], options: Options) -> Result<Kind, Refusal>
     ensures { result ≡ kind_asked line.now options }
 {
     let refusal = line_refusal(line);
     if refusal.number != 0 {
-        return Asked::Refused(refusal);
+        return Err(refusal);
     }
     let mode = options.mode;
-    Asked::Is(kind_of(options.atoms, mode, line))
+    Ok(kind_of(options.atoms, mode, line))
 }
 
 // Reads a line of any bytes as one of a kind, which has to be the one that `kind_line` gives; any other is refused. The rest is as for `lex_line`.

@@ -10,6 +10,7 @@ use Prim.Native.Nat.{◌≤◌}
 use mathlib.Core.Path.{◌≡◌, refl, sym, ap, ◌∙◌}
 use mathlib.Core.Bool.{Bool, true, false, cond}
 use mathlib.Core.List.{List, [], ◌∷◌}
+use Rattle.std.specs.Prelude.{Ok}
 use borrow.Author.Tests.{ltb-false}
 use lib.ListN.{length, take, drop}
 use Rattle.lexitem.specs.Describe.{item_of}
@@ -18,7 +19,6 @@ use Rattle.lexer.specs.Lexed.{refused, accepted, first_of, lexed}
 use Rattle.lexer.specs.Refusals.{Input, Test, tests, kind, given, faults}
 use Rattle.lexer.specs.Refusals.Asking.{its_record}
 use Rattle.lexitem.specs.declared.answer.Answer.{Answer}
-use Rattle.lexitem.specs.declared.answer.Outcome.TheVariants.{Accepted}
 use Rattle.lexitem.specs.declared.answer.Refusal.{Refusal}
 use Rattle.lexitem.specs.declared.item.LexItem.{LexItem}
 use Rattle.line.specs.Faults.{no_faults, all_noted}
@@ -27,21 +27,21 @@ use Rattle.lexitem.proofs.Laws.Few.{faults_fifteen}
 use Rattle.lexitem.proofs.Laws.Fault.{told-stamped, in_stamped}
 
 module _ (i : Input) (x : LexItem) where
-  test_failed : (b : Bool) (r : Refusal) (else : Answer) → (cond b (refused i r) else).outcome ≡ Accepted x → b ≡ false
+  test_failed : (b : Bool) (r : Refusal) (else : Answer) → (cond b (refused i r) else).outcome ≡ Ok x → b ≡ false
   test_failed true r else e = cc
   test_failed false r else e = refl
 
-  tests-passed : (rs : List Test) (else : Answer) → (first_of (refused i) rs else).outcome ≡ Accepted x → first_of (refused i) rs else ≡ else
+  tests-passed : (rs : List Test) (else : Answer) → (first_of (refused i) rs else).outcome ≡ Ok x → first_of (refused i) rs else ≡ else
   tests-passed [] else e = refl
   tests-passed (r ∷ rest) else e = go r.holds (tests-passed rest else) e
     where
-      go : (b : Bool) → ((first_of (refused i) rest else).outcome ≡ Accepted x → first_of (refused i) rest else ≡ else)
-          → (cond b (refused i r.gives) (first_of (refused i) rest else)).outcome ≡ Accepted x
+      go : (b : Bool) → ((first_of (refused i) rest else).outcome ≡ Ok x → first_of (refused i) rest else ≡ else)
+          → (cond b (refused i r.gives) (first_of (refused i) rest else)).outcome ≡ Ok x
           → cond b (refused i r.gives) (first_of (refused i) rest else) ≡ else
       go true on e = cc
       go false on e = on e
 
-  module _ (yes : (lexed i).outcome ≡ Accepted x) where
+  module _ (yes : (lexed i).outcome ≡ Ok x) where
     pub accepted-answer : lexed i ≡ accepted i
     unfolding lexed
     accepted-answer = tests-passed (tests its_record i) (accepted i) yes

@@ -10,6 +10,7 @@ use Prim.Native.Nat.{ℕ, ◌-◌}
 use mathlib.Core.Path.{◌≡◌, refl, ◌∙◌}
 use mathlib.Core.Bool.{Bool, true, false, cond, not, ◌&&◌}
 use mathlib.Core.List.{List, [], ◌∷◌, ◌++◌}
+use Rattle.std.specs.Prelude.{Ok, Err}
 use native.Mathlib.Omega.{arith}
 use borrow.Author.Tests.{lt-ltb, le-ltb, ltb-true, ltb-false, not-true}
 use lib.ListN.{length}
@@ -31,7 +32,6 @@ use Rattle.lexer.specs.Refusals.{Input, Test, kind, given, line_tests, own_tests
 use Rattle.lexer.specs.Refusals.Asking.{its_record}
 use Rattle.lexer.specs.Lexed.{refused, accepted, first_of, lexed, lexed_as, kind_asked}
 use Rattle.lexer.specs.Steps.{first_refusal, entry_tests, own_refusal, header_refusal, remark_refusal, least_refusal, answer_of, read_as}
-use Rattle.lexer.specs.declared.Asked.TheVariants as asked
 
 -- three tests whose third fails
 pub no_third : (a b : Bool) → (a && b) && false ≡ false
@@ -119,6 +119,6 @@ module _ (i : Input) where
       turned false = refl
 
 pub asked-split : (l : List ℕ) (options : Options) → kind_asked l options
-    ≡ cond (eqb (first_refusal (line_tests l)).number 0) (asked.Is (kind_of options.atoms options.mode l)) (asked.Refused (first_refusal (line_tests l)))
+    ≡ cond (eqb (first_refusal (line_tests l)).number 0) (Ok (kind_of options.atoms options.mode l)) (Err (first_refusal (line_tests l)))
 unfolding kind_asked
-asked-split l options = first-split asked.Refused (line_tests l) [] (asked.Is (kind_of options.atoms options.mode l)) tt
+asked-split l options = first-split Err (line_tests l) [] (Ok (kind_of options.atoms options.mode l)) tt
