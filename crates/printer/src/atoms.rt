@@ -8,7 +8,7 @@ ghost use Rattle.sheet.specs.Sheet as sheets;
 use crate::places::places_at;
 use atom::record::{Atom, Basics, Factors, Position};
 use line::columns::Columns;
-use sheet::{Figure, Pen, Written, begin, draw_figure, draw_lent, draw_words, end, rule_off};
+use sheet::{Figure, Pen, Unwritten, begin, draw_figure, draw_lent, draw_words, end, rule_off};
 
 const ALTERNATE: Columns = Columns {
     start: Basics::ALTERNATE,
@@ -127,7 +127,7 @@ pub fn write_atom(
     charge: i64,
     places: &[u8],
     out: &mut [u8],
-) -> Written
+) -> Result<(), Unwritten>
     ensures { sheets.Writes out.old (specs.atom_sheet hetero (specs.label serial name.now alternate.now residue.now chain.now number insertion.now segment.now element.now charge) position occupancy bfactor places.now) result out.new }
 {
     let mut bytes = [0u8; 80];
@@ -155,7 +155,7 @@ pub fn write_anisou(
     element: &[u8],
     charge: i64,
     out: &mut [u8],
-) -> Written
+) -> Result<(), Unwritten>
     ensures { sheets.Writes out.old (specs.anisou_sheet (specs.label serial name.now alternate.now residue.now chain.now number insertion.now segment.now element.now charge) factors) result out.new }
 {
     let mut bytes = [0u8; 80];

@@ -4,12 +4,12 @@ ghost use Rattle.printer.specs.Sheets as specs;
 ghost use Rattle.sheet.specs.Sheet as sheets;
 
 use line::columns::Columns;
-use sheet::{Figure, Written, begin, draw_figure, end, rule_off};
+use sheet::{Figure, Unwritten, begin, draw_figure, end, rule_off};
 
 // Where a MODEL's number is written. It is read from the name on.
 const NUMBER: Columns = Columns { start: 10, end: 14 };
 
-pub fn write_model(number: u64, out: &mut [u8]) -> Written
+pub fn write_model(number: u64, out: &mut [u8]) -> Result<(), Unwritten>
     ensures { sheets.Writes out.old (specs.model_sheet number) result out.new }
 {
     let mut bytes = [0u8; 80];
@@ -28,7 +28,7 @@ pub enum Bare {
     End,
 }
 
-fn write_name(name: &[u8], out: &mut [u8]) -> Written
+fn write_name(name: &[u8], out: &mut [u8]) -> Result<(), Unwritten>
     requires { length name.now ≤ 80 }
     ensures { sheets.Writes out.old (record { name = name.entry.now; cells = [] }) result out.new }
 {
@@ -39,7 +39,7 @@ fn write_name(name: &[u8], out: &mut [u8]) -> Written
     end(out, &bytes, miss)
 }
 
-pub fn write_bare(bare: Bare, out: &mut [u8]) -> Written
+pub fn write_bare(bare: Bare, out: &mut [u8]) -> Result<(), Unwritten>
     ensures { sheets.Writes out.old (specs.bare_sheet bare) result out.new }
 {
     match bare {

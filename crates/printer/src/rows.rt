@@ -7,7 +7,7 @@ ghost use Rattle.sheet.specs.Sheet as sheets;
 
 use crate::places::places_at;
 use line::columns::Columns;
-use sheet::{Figure, Pen, Written, begin, draw_figure, end, rule_off};
+use sheet::{Figure, Pen, Unwritten, begin, draw_figure, end, rule_off};
 use transformation::record::{MtriX, Transformation};
 
 // The last byte of the name.
@@ -39,7 +39,7 @@ fn write_values(
     values: Transformation,
     places: &[u8],
     out: &mut [u8],
-) -> Written
+) -> Result<(), Unwritten>
     requires { length name.now ≡ 5 }
     ensures { sheets.Writes out.old (steps.values_sheet name.now row values places.now) result out.new }
 {
@@ -52,13 +52,23 @@ fn write_values(
     end(out, &bytes, miss)
 }
 
-pub fn write_scale(row: usize, values: Transformation, places: &[u8], out: &mut [u8]) -> Written
+pub fn write_scale(
+    row: usize,
+    values: Transformation,
+    places: &[u8],
+    out: &mut [u8],
+) -> Result<(), Unwritten>
     ensures { sheets.Writes out.old (specs.scale_sheet row values places.now) result out.new }
 {
     write_values(b"SCALE", row, values, places, out)
 }
 
-pub fn write_origx(row: usize, values: Transformation, places: &[u8], out: &mut [u8]) -> Written
+pub fn write_origx(
+    row: usize,
+    values: Transformation,
+    places: &[u8],
+    out: &mut [u8],
+) -> Result<(), Unwritten>
     ensures { sheets.Writes out.old (specs.origx_sheet row values places.now) result out.new }
 {
     write_values(b"ORIGX", row, values, places, out)
@@ -71,7 +81,7 @@ pub fn write_mtrix(
     given: bool,
     places: &[u8],
     out: &mut [u8],
-) -> Written
+) -> Result<(), Unwritten>
     ensures { sheets.Writes out.old (specs.mtrix_sheet row serial values given places.now) result out.new }
 {
     let mut bytes = [0u8; 80];

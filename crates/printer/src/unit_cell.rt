@@ -8,7 +8,7 @@ ghost use Rattle.sheet.specs.Sheet as sheets;
 use crate::places::places_at;
 use crystal::record::{Cell, Crystal};
 use line::columns::Columns;
-use sheet::{Figure, Pen, Written, begin, draw_figure, draw_words, end, rule_off};
+use sheet::{Figure, Pen, Unwritten, begin, draw_figure, draw_words, end, rule_off};
 
 // Where Z is written. It is read to the end of the line.
 const Z: Columns = Columns {
@@ -43,7 +43,13 @@ fn draw_angles(out: &mut [u8], pen: Pen, cell: Cell, places: &[u8]) -> Pen
     draw_figure(out, second, Cell::GAMMA, gamma)
 }
 
-pub fn write_cell(cell: Cell, group: &[u8], z: u64, places: &[u8], out: &mut [u8]) -> Written
+pub fn write_cell(
+    cell: Cell,
+    group: &[u8],
+    z: u64,
+    places: &[u8],
+    out: &mut [u8],
+) -> Result<(), Unwritten>
     ensures { sheets.Writes out.old (specs.cell_sheet cell group.now z places.now) result out.new }
 {
     let mut bytes = [0u8; 80];

@@ -1,5 +1,4 @@
 -- The laws of the words in specs/.
-pub mod Copy
 pub mod Width
 pub mod Draft
 pub mod Line

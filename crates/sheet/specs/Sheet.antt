@@ -1,14 +1,14 @@
 -- "Each line 80 bytes": a name, then fields in ascending columns, and blanks everywhere else. "Refusals: 9, tested before 8, exactly when .. a number
 -- or text doesn't fit its columns; place and length are those of the first such field by column, output untouched. 8 is then an output under 80
 -- bytes; past 80 the output stays."
-use Rattle.std.specs.Prelude.{ℕ, ◌-◌, ◌≡◌, Bool, cond, ◌&&◌, List, [], ◌∷◌, ◌++◌, length, drop, leb, ltb}
+use Rattle.std.specs.Prelude.{ℕ, ◌-◌, ◌≡◌, Bool, cond, ◌&&◌, List, [], ◌∷◌, ◌++◌, length, drop, leb, ltb, Result, Ok, Err}
 use Rattle.line.specs.Columns.{◌⋯◌}
 use Rattle.line.specs.declared.columns.Columns.{Columns}
 use Rattle.cell.specs.Text.{blanks}
 use Rattle.sheet.specs.Ink.{Ink, ink_fits, ink_bytes}
 use Rattle.sheet.specs.Ink.Ink.{other}
-use Rattle.sheet.specs.declared.Written.{Written}
-use Rattle.sheet.specs.declared.Written.TheVariants.{Line, NoFit, NoRoom}
+use Rattle.sheet.specs.declared.Unwritten.{Unwritten}
+use Rattle.sheet.specs.declared.Unwritten.TheVariants.{NoFit, NoRoom}
 
 -- a field: its columns, and what stands there
 infix 70 ◌holds◌
@@ -44,15 +44,17 @@ ascend column [] = leb column 80
 ascend column (c ∷ rest) = leb column (columns_of c).start && ltb (columns_of c).start (columns_of c).end && ascend (columns_of c).end rest
 
 -- ---- the answer
+abbrev pub Written : Type 0
+Written = Result (Unit {0}) Unwritten
+
 -- the first cell that doesn't fit is told, and then that there is too little room
 unfoldable pub answer_of : List Cell → ℕ → Written
-answer_of [] room = cond (ltb room 80) NoRoom Line
-answer_of (c ∷ rest) room = cond (cell_fits c) (answer_of rest room) (NoFit (columns_of c))
+answer_of [] room = cond (ltb room 80) (Err NoRoom) (Ok tt)
+answer_of (c ∷ rest) room = cond (cell_fits c) (answer_of rest room) (Err (NoFit (columns_of c)))
 
 abbrev pub afterwards : List ℕ → List ℕ → Written → List ℕ
-afterwards old line Line = line ++ drop 80 old
-afterwards old line (NoFit at) = old
-afterwards old line NoRoom = old
+afterwards old line (Ok u) = line ++ drop 80 old
+afterwards old line (Err why) = old
 
 -- what writing a sheet answers, and every lent byte afterwards
 pub record Writes (old : List ℕ) (s : Sheet) (r : Written) (new : List ℕ) : Type 0 where
@@ -65,6 +67,6 @@ other_kind = record { name = []; cells = 0 ⋯ 6 holds other ∷ [] }
 
 -- 02's number, place and length of an answer; 0 stands for a line that was written
 abbrev pub numbers_of : Written → ℕ × ℕ × ℕ
-numbers_of Line = (0, 0, 0)
-numbers_of (NoFit at) = (9, at.start, at.end - at.start)
-numbers_of NoRoom = (8, 0, 80)
+numbers_of (Ok u) = (0, 0, 0)
+numbers_of (Err (NoFit at)) = (9, at.start, at.end - at.start)
+numbers_of (Err NoRoom) = (8, 0, 80)

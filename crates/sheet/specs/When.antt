@@ -6,7 +6,7 @@
 --     First, AllFit         the first field that doesn't fit, and that there is none
 --     Lowest                the same by column
 --     When                  what writing a sheet answers exactly when, and the lent bytes afterwards
-use Rattle.std.specs.Prelude.{ℕ, ◌-◌, ◌≤◌, ◌<◌, ◌≡◌, ◌↔◌, ◌≢◌, ◌⊎◌, length, drop}
+use Rattle.std.specs.Prelude.{ℕ, ◌-◌, ◌≤◌, ◌<◌, ◌≡◌, ◌↔◌, ◌≢◌, ◌⊎◌, length, drop, Ok, Err}
 use mathlib.Core.List.{List, [], ◌∷◌, ◌++◌, Memᴰ}
 use Rattle.line.specs.declared.columns.Columns.{Columns}
 use Rattle.page.specs.Numerals.{decimal, signed_decimal}
@@ -17,11 +17,10 @@ use Rattle.cell.specs.Words.{charge_text}
 use Rattle.cell.specs.declared.places.Places.{Places}
 use Rattle.cell.specs.declared.places.Places.TheVariants.{Rounded, NoFit}
 use Rattle.sheet.specs.Ink.{Ink}
-use Rattle.sheet.specs.Sheet.{Cell, ◌holds◌, Sheet, columns_of, line_of}
+use Rattle.sheet.specs.Sheet.{Written, Cell, ◌holds◌, Sheet, columns_of, line_of}
 use Rattle.sheet.specs.declared.Figure.{Figure}
 use Rattle.sheet.specs.declared.Figure.TheVariants as figures
-use Rattle.sheet.specs.declared.Written.{Written}
-use Rattle.sheet.specs.declared.Written.TheVariants as written
+use Rattle.sheet.specs.declared.Unwritten.TheVariants as unwritten
 
 -- a text has a byte outside 32 to 126
 abbrev pub Odd : List ℕ → Type 0
@@ -72,11 +71,11 @@ pub record Lowest (cells : List Cell) (at : Columns) : Type 0 where
 -- ---- the answer, exactly when
 pub record When (old : List ℕ) (s : Sheet) (r : Written) (new : List ℕ) : Type 0 where
   -- 9, with the columns of the first field that doesn't fit
-  pub refused : (at : Columns) → (r ≡ written.NoFit at) ↔ First s.cells at
+  pub refused : (at : Columns) → (r ≡ Err (unwritten.NoFit at)) ↔ First s.cells at
   -- 8, where every field fits
-  pub short : (r ≡ written.NoRoom) ↔ (AllFit s.cells × (length old < 80))
+  pub short : (r ≡ Err unwritten.NoRoom) ↔ (AllFit s.cells × (length old < 80))
   -- a line
-  pub line : (r ≡ written.Line) ↔ (AllFit s.cells × (80 ≤ length old))
+  pub line : (r ≡ Ok tt) ↔ (AllFit s.cells × (80 ≤ length old))
   -- "output untouched"; "past 80 the output stays"
-  pub untouched : r ≢ written.Line → new ≡ old
-  pub lent : r ≡ written.Line → (new ≡ line_of s ++ drop 80 old) × (length (line_of s) ≡ 80)
+  pub untouched : r ≢ Ok tt → new ≡ old
+  pub lent : r ≡ Ok tt → (new ≡ line_of s ++ drop 80 old) × (length (line_of s) ≡ 80)

@@ -2,7 +2,7 @@
 // columns of the first field that doesn't, so that no field needs a branch of its own.
 #![tactic(auto)]
 
-ghost use Rattle.std.specs.Prelude.{◌≡◌, ◌-◌, ◌≤◌, length, drop, ◌++◌};
+ghost use Rattle.std.specs.Prelude.{◌≡◌, ◌-◌};
 ghost use Rattle.cell.specs.Cell.{Puts};
 ghost use Rattle.cell.specs.Text.{blanks};
 ghost use Rattle.page.specs.Page.{page, put};
@@ -29,21 +29,16 @@ pub enum Figure {
     Row(usize),
 }
 
-// Where the next byte goes, and the columns of the first field that doesn't fit, 0 to 0 while all do.
+// Where the next byte goes, and the columns of the first field that doesn't fit, if one doesn't.
 #[derive(Clone, Copy)]
 pub struct Pen {
     pub next: usize,
-    pub miss: Columns,
+    pub miss: Option<Columns>,
 }
 
-impl Pen {
-    pub const NO_MISS: Columns = Columns { start: 0, end: 0 };
-}
-
-// A line was written; or a field doesn't fit; or there is too little room.
+// Why a line isn't written: a field doesn't fit its columns, or there is too little room.
 #[derive(Clone, Copy)]
-pub enum Written {
-    Line,
+pub enum Unwritten {
     NoFit(Columns),
     NoRoom,
 }
@@ -52,9 +47,8 @@ pub enum Written {
 pub fn begin(out: &mut [u8], name: &[u8]) -> Pen
     ensures { specs.draft out.new result ≡ specs.begun out.old name.now }
 {
-    let miss = Pen::NO_MISS;
     let next = put_bytes(out, 0, name);
-    Pen { next, miss }
+    Pen { next, miss: None }
 }
 
 // Blanks up to a column.
@@ -71,15 +65,15 @@ fn fill(out: &mut [u8], next: usize, column: usize) -> usize
 fn mark(pen: Pen, at: Columns, put: Put) -> Pen
     ensures { result ≡ specs.marked pen at put }
 {
-    let first = pen.miss;
     let next = put.next;
+    let miss = pen.miss;
     if put.fits {
-        return Pen { next, miss: first };
+        return Pen { next, miss };
     }
-    if 0 < first.end {
-        return Pen { next, miss: first };
+    Pen {
+        next,
+        miss: miss.or(Some(at)),
     }
-    Pen { next, miss: at }
 }
 
 fn put_figure(out: &mut [u8], at: usize, width: usize, figure: Figure) -> Put
@@ -132,33 +126,17 @@ pub fn rule_off(out: &mut [u8], pen: Pen) -> Pen
     Pen { next, miss }
 }
 
-// 80 bytes at the front, without a test for each: they are known to have room.
-fn copy(out: &mut [u8], line: &[u8])
-    requires in_bounds { 80 ≤ length out.old }
-    requires line_len { length line.now ≡ 80 }
-    ensures { out.new ≡ line.now ++ drop 80 out.old }
-{
-    let mut i = 0;
-    while i < 80 {
-        out[i] = line[i];
-        i += 1;
-    }
-}
-
 // The line as it was drawn goes into the lent bytes, if every field fits and there is room. Else these stay as they are.
-pub fn end(out: &mut [u8], line: &[u8], miss: Columns) -> Written
+pub fn end(out: &mut [u8], line: &[u8], miss: Option<Columns>) -> Result<(), Unwritten>
     ensures { specs.Ends out.old line.now miss result out.new }
 {
-    if 0 < miss.end {
-        return Written::NoFit(miss);
+    if let Some(at) = miss {
+        return Err(Unwritten::NoFit(at));
     }
     if out.len() < 80 {
-        return Written::NoRoom;
+        return Err(Unwritten::NoRoom);
     }
-    if line.len() == 80 {
-        copy(out, line);
-        return Written::Line;
-    }
-    put_bytes(out, 0, line);
-    Written::Line
+    let most = line.len().min(out.len());
+    out[..most].copy_from_slice(&line[..most]);
+    Ok(())
 }

@@ -4,6 +4,7 @@
 --     put_measure               it is the same whatever the page's bytes
 --     put-length                a page keeps its length
 --     put-fits, put_front       what fits replaces as many bytes, and the others stay
+--     put_over                  what doesn't fit is cut off at the end of the bytes
 --     put_on, put_past          one byte, by the code's tests
 --     put_step, -next, -done    a loop's turn, and its end
 -- Assumes nothing.
@@ -13,8 +14,11 @@ use mathlib.Core.List.{List, [], ◌∷◌, ◌++◌}
 use native.Mathlib.Nat.{zero-add}
 use native.Mathlib.Numerals.{add-one}
 use native.Mathlib.Omega.{arith}
-use lib.ListN.{length, take, drop, get_or, set, length-set, drop_of_length-le}
-use lib.Seq.{drop-cons, sets, sets-eq, set_out}
+use mathlib.Core.Bool.{Bool, true, false}
+use borrow.Author.Tests.{ltb-true, ltb-false}
+use lib.Dec.{ltb}
+use lib.ListN.{length, take, drop, get_or, set, length-set, take-append-drop, drop_of_length-le}
+use lib.Seq.{drop-cons, sets, sets-eq, set_out, length-take-le, take_all}
 use Rattle.page.specs.Page.{Page, page, put_byte, put}
 
 pub put-append : (p : Page) (a b : List ℕ) → put p (a ++ b) ≡ put (put p a) b
@@ -61,6 +65,40 @@ module _ (bytes t : List ℕ) (short : length bytes < 2 ^ 64) where
 
   pub put_front : length t ≤ length bytes → (put (page bytes 0) t).bytes ≡ t ++ drop (length t) bytes
   put_front h = put-fits 0 (omega arith) ∙ ap (λ (n : ℕ). t ++ drop n bytes) (zero-add (length t))
+
+-- past the end nothing is stored
+put_beyond : (p : Page) (t : List ℕ) → length p.bytes ≤ p.at → length p.bytes < 2 ^ 64 → (put p t).bytes ≡ p.bytes
+unfolding put put_byte
+put_beyond p [] h k = refl
+put_beyond p (b ∷ t) h k =
+    put_beyond (put_byte p b) t (rw (length-set p.bytes p.at b) (omega arith)) (rw (length-set p.bytes p.at b) k) ∙ set_out p.bytes p.at b h
+
+module _ (bytes t : List ℕ) (at most : ℕ) (short : length bytes < 2 ^ 64) (within : at ≤ length bytes) (cut : most ≡ min (length t) (length bytes - at)) where
+  front-length : length (take most t) ≡ most
+  front-length = length-take-le most t (omega arith)
+
+  front-fits : (put (page bytes at) (take most t)).bytes ≡ take at bytes ++ take most t ++ drop (at + most) bytes
+  front-fits =
+      put-fits bytes (take most t) short at (omega (arith, front-length)) ∙ ap (λ (k : ℕ). take at bytes ++ take most t ++ drop (at + k) bytes) front-length
+
+  pub put_over : (put (page bytes at) t).bytes ≡ take at bytes ++ take most t ++ drop (at + most) bytes
+  put_over = go (ltb (length bytes - at) (length t)) refl
+    where
+      p : Page
+      p = put (page bytes at) (take most t)
+
+      go : (b : Bool) → ltb (length bytes - at) (length t) ≡ b → (put (page bytes at) t).bytes ≡ take at bytes ++ take most t ++ drop (at + most) bytes
+      go true h =
+          let l = ltb-true _ _ h in
+          let long = put-length (page bytes at) (take most t) in
+          let full = put-at (page bytes at) (take most t) (omega arith) in
+          ap (λ (s : List ℕ). (put (page bytes at) s).bytes) (sym (take-append-drop most t))
+          ∙ ap (λ (q : Page). q.bytes) (put-append (page bytes at) (take most t) (drop most t))
+          ∙ put_beyond p (drop most t) (omega (arith, front-length)) (omega arith)
+          ∙ front-fits
+      go false h =
+          let l = ltb-false _ _ h in
+          ap (λ (s : List ℕ). (put (page bytes at) s).bytes) (sym (take_all most t (omega arith))) ∙ front-fits
 
 -- ---- one byte, by the code's tests
 module _ (bytes : List ℕ) (at b : ℕ) where

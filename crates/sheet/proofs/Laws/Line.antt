@@ -7,20 +7,20 @@
 use mathlib.Core.Path.{◌≡◌, refl, sym, ap, ◌∙◌}
 use Prim.Native.Nat.{ℕ, ◌-◌, ◌^◌, ◌≤◌, ◌<◌}
 use native.Mathlib.Omega.{arith}
-use mathlib.Core.Bool.{Bool, true, false, cond, ◌&&◌, ◌||◌}
+use mathlib.Core.Bool.{Bool, true, false, cond, ◌&&◌}
 use mathlib.Core.List.{List, [], ◌∷◌, ◌++◌, append_assoc, append-nil}
-use borrow.Author.Tests.{leb-true, ltb-true, ltb-false, lt-ltb}
+use borrow.Author.Tests.{leb-true, ltb-true, ltb-false}
 use lib.ListN.{length, drop, length-append, drop_of_length-le}
 use lib.Dec.{leb, ltb}
+use Rattle.std.specs.Prelude.{Option, Some, None, Ok, Err}
 use Rattle.line.specs.declared.columns.Columns.{Columns}
 use Rattle.page.specs.Page.{Page, page, put}
 use Rattle.page.proofs.Laws.Page.{put-append, put-at, put_count, put_front}
 use Rattle.cell.specs.Text.{blanks}
-use Rattle.sheet.specs.Sheet.{Cell, Sheet, columns_of, cell_fits, cell_bytes, cells_from, line_of, ascend, answer_of, afterwards, Writes}
+use Rattle.sheet.specs.Sheet.{Written, Cell, Sheet, columns_of, cell_fits, cell_bytes, cells_from, line_of, ascend, answer_of, afterwards, Writes}
 use Rattle.sheet.specs.Draft.{Draft, draft, begun, missed, inked, drawn, drawn_all, filled, ending, copied, Ends}
 use Rattle.sheet.specs.declared.Pen.{Pen}
-use Rattle.sheet.specs.declared.Written.{Written}
-use Rattle.sheet.specs.declared.Written.TheVariants.{Line, NoFit, NoRoom}
+use Rattle.sheet.specs.declared.Unwritten.TheVariants.{NoFit, NoRoom}
 use Rattle.cell.proofs.Laws.Width.{blanks-width}
 use Rattle.sheet.proofs.Laws.Width.{cell-width}
 
@@ -101,52 +101,42 @@ drawn-page d column (c ∷ rest) e h =
     ∙ ap (λ (n : ℕ). put d.page (blanks ((columns_of c).start - n) ++ (t ++ more))) e
 
 -- ---- the answer
-pub miss-kept : (d : Draft) (cells : List Cell) → missed d.miss ≡ true → (drawn_all d cells).miss ≡ d.miss
+pub miss-kept : (d : Draft) (cells : List Cell) (at : Columns) → d.miss ≡ Some at → (drawn_all d cells).miss ≡ Some at
 unfolding drawn_all drawn inked
-miss-kept d [] h = refl
-miss-kept d (c ∷ rest) h =
-    let kept = same (cell_fits c) in
-    miss-kept (drawn d c) rest (rw kept h) ∙ kept
+miss-kept d [] at h = h
+miss-kept d (c ∷ rest) at h = miss-kept (drawn d c) rest at (rw h (same (cell_fits c)))
   where
-    same : (b : Bool) → cond (b || missed d.miss) d.miss (columns_of c) ≡ d.miss
+    same : (b : Bool) → missed b (Some at) (columns_of c) ≡ Some at
     same true = refl
-    same false = rw h refl
+    same false = refl
 
-pub drawn-answers : (d : Draft) (column room : ℕ) (cells : List Cell) → missed d.miss ≡ false → ascend column cells ≡ true
-    → ending (drawn_all d cells).miss room ≡ answer_of cells room
+pub drawn-answers : (d : Draft) (room : ℕ) (cells : List Cell) → d.miss ≡ None → ending (drawn_all d cells).miss room ≡ answer_of cells room
 unfolding drawn_all drawn inked answer_of
-drawn-answers d column room [] m h = rw m refl
-drawn-answers d column room (c ∷ rest) m h = go (cell_fits c) refl (λ e. drawn-answers (drawn d c) (columns_of c).end room rest e a.more)
+drawn-answers d room [] m = rw m refl
+drawn-answers d room (c ∷ rest) m = go (cell_fits c) refl (λ e. drawn-answers (drawn d c) room rest e)
   where
-    a : Ascends column c rest
-    a = ascend-parts column c rest h
-
     go : (b : Bool) → cell_fits c ≡ b
-        → (missed (drawn d c).miss ≡ false → ending (drawn_all (drawn d c) rest).miss room ≡ answer_of rest room)
-        → ending (drawn_all (drawn d c) rest).miss room ≡ cond (cell_fits c) (answer_of rest room) (NoFit (columns_of c))
-    go true f more = more (rw f m) ∙ rw f refl
+        → ((drawn d c).miss ≡ None → ending (drawn_all (drawn d c) rest).miss room ≡ answer_of rest room)
+        → ending (drawn_all (drawn d c) rest).miss room ≡ cond (cell_fits c) (answer_of rest room) (Err (NoFit (columns_of c)))
+    go true f more = more (rw (f, m) refl) ∙ rw f refl
     go false f more =
-        let seen : missed (columns_of c) ≡ true = lt-ltb 0 (columns_of c).end (omega (arith, a.wide)) in
-        let now : (drawn d c).miss ≡ columns_of c = rw (f, m) refl in
-        let kept = miss-kept (drawn d c) rest (rw now seen) in
-        ap (λ (m : Columns). ending m room) (kept ∙ now) ∙ rw (f, seen) refl
+        ap (λ (m : Option Columns). ending m room) (miss-kept (drawn d c) rest (columns_of c) (rw (f, m) refl)) ∙ rw f refl
 
 -- ---- all of it
-room-enough : (miss : Columns) (room : ℕ) → ending miss room ≡ Line → 80 ≤ room
-room-enough miss room = go (missed miss) (ltb room 80) refl
+room-enough : (miss : Option Columns) (room : ℕ) → ending miss room ≡ Ok tt → 80 ≤ room
+room-enough None room e = go (ltb room 80) refl e
   where
-    go : (m n : Bool) → ltb room 80 ≡ n → cond m (NoFit miss) (cond n NoRoom Line) ≡ Line → 80 ≤ room
-    go true n f e = let z : ◌≡◌ {A = ℕ} 0 1 = cc in absurd (omega arith)
-    go false true f e = let z : ◌≡◌ {A = ℕ} 0 1 = cc in absurd (omega arith)
-    go false false f e = ltb-false room 80 f
+    go : (n : Bool) → ltb room 80 ≡ n → cond n (Err NoRoom) (Ok (tt {0})) ≡ Ok (tt {0}) → 80 ≤ room
+    go true f e = let z : ◌≡◌ {A = ℕ} 0 1 = cc in absurd (omega arith)
+    go false f e = ltb-false room 80 f
+room-enough (Some at) room e = let z : ◌≡◌ {A = ℕ} 0 1 = cc in absurd (omega arith)
 
-copied_is : (old line : List ℕ) (miss : Columns) (w : Written) → length old < 2 ^ 64 → length line ≡ 80 → ending miss (length old) ≡ w
+copied_is : (old line : List ℕ) (miss : Option Columns) (w : Written) → length old < 2 ^ 64 → length line ≡ 80 → ending miss (length old) ≡ w
     → copied old line w ≡ afterwards old line w
-copied_is old line miss Line short long e =
+copied_is old line miss (Ok u) short long e =
     let room = room-enough miss (length old) e in
     put_front old line short (omega arith) ∙ ap (λ (n : ℕ). line ++ drop n old) long
-copied_is old line miss (NoFit at) short long e = refl
-copied_is old line miss NoRoom short long e = refl
+copied_is old line miss (Err why) short long e = refl
 
 module _ (s : Sheet) (h : ascend (length s.name) s.cells ≡ true) (old zeros : List ℕ) where
   pub drawn-writes : (ruled new : List ℕ) (last : Pen) (r : Written) → length old < 2 ^ 64 → length zeros ≡ 80 → Ends old ruled last.miss r new
@@ -168,5 +158,5 @@ module _ (s : Sheet) (h : ascend (length s.name) s.cells ≡ true) (old zeros : 
       ∙ rw (drop_of_length-le zeros over) (append-nil line) in
       let missing : last.miss ≡ (drawn_all (begun zeros name) s.cells).miss = ap (λ (x : Draft). x.miss) drawn-to in
       let answered : r ≡ answer_of s.cells (length old) =
-      e.answers ∙ rw missing (drawn-answers (begun zeros name) (length name) (length old) s.cells refl h) in
+      e.answers ∙ rw missing (drawn-answers (begun zeros name) (length old) s.cells refl) in
       record { answers = answered; leaves = e.leaves ∙ rw is (copied_is old line last.miss r short long (sym e.answers)) }

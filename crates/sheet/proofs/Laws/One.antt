@@ -3,11 +3,11 @@
 use mathlib.Core.Path.{◌≡◌, sym, ap, ◌∙◌}
 use mathlib.Core.List.{List}
 use Prim.Native.Nat.{ℕ}
+use Rattle.std.specs.Prelude.{Option}
 use Rattle.line.specs.declared.columns.Columns.{Columns}
 use Rattle.sheet.specs.Draft.{Draft, draft, copied, Ends}
-use Rattle.sheet.specs.Sheet.{Sheet, line_of, afterwards, Writes}
+use Rattle.sheet.specs.Sheet.{Written, Sheet, line_of, afterwards, Writes}
 use Rattle.sheet.specs.declared.Pen.{Pen}
-use Rattle.sheet.specs.declared.Written.{Written}
 
 pub draft-one : {a b : List ℕ} {r s : Pen} {d : Draft} → draft a r ≡ d → draft b s ≡ d → (r ≡ s) × (a ≡ b)
 unfolding draft
@@ -17,7 +17,7 @@ draft-one {a} {b} {r} {s} e f =
       ap (λ (d : Draft). d.page.bytes) g,
     )
 
-module _ {old line : List ℕ} {miss : Columns} {r s : Written} {a b : List ℕ} where
+module _ {old line : List ℕ} {miss : Option Columns} {r s : Written} {a b : List ℕ} where
   pub ends-one : Ends old line miss r a → Ends old line miss s b → (r ≡ s) × (a ≡ b)
   ends-one e f =
       let same = e.answers ∙ sym f.answers in (same, e.leaves ∙ ap (copied old line) same ∙ sym f.leaves)

@@ -17,6 +17,7 @@ use borrow.Author.Tests.{leb-true, leb-false, ltb-true, ltb-false, eqb-true, eqb
 use lib.ListN.{length, length-append}
 use lib.Dec.{leb, ltb, eqb}
 use lib.IntN.{ℤ, pos, negsuc, nat_abs}
+use Rattle.std.specs.Prelude.{Ok, Err}
 use Rattle.line.specs.declared.columns.Columns.{Columns}
 use Rattle.number.specs.Whole.{with_sign}
 use Rattle.number.proofs.Laws.Digits.{value-below}
@@ -31,12 +32,11 @@ use Rattle.cell.specs.declared.places.Places.{Places}
 use Rattle.cell.specs.declared.places.Places.TheVariants as places
 use Rattle.cell.proofs.Laws.Text.{all_digits, same-said}
 use Rattle.sheet.specs.Ink.{Ink, figure_fits, ink_fits}
-use Rattle.sheet.specs.Sheet.{Cell, ◌holds◌, Sheet, columns_of, cell_fits, line_of, ascend, answer_of, afterwards, Writes}
+use Rattle.sheet.specs.Sheet.{Written, Cell, ◌holds◌, Sheet, columns_of, cell_fits, line_of, ascend, answer_of, afterwards, Writes}
 use Rattle.sheet.specs.When.{Odd, RealMisfit, FactorMisfit, FigureMisfit, InkMisfit, Misfit, First, AllFit, Lowest, When}
 use Rattle.sheet.specs.declared.Figure.{Figure}
 use Rattle.sheet.specs.declared.Figure.TheVariants as figures
-use Rattle.sheet.specs.declared.Written.{Written}
-use Rattle.sheet.specs.declared.Written.TheVariants.{Line, NoFit, NoRoom}
+use Rattle.sheet.specs.declared.Unwritten.TheVariants.{NoFit, NoRoom}
 use Rattle.sheet.proofs.Laws.Line.{ascend-parts, line-width}
 
 -- ---- tests
@@ -127,11 +127,11 @@ misfit_tells (at holds i) wide = ink_tells (at.end - at.start) i (omega arith)
 -- ---- the answer
 -- what an answer tells of the cells and of the room
 record Told (cells : List Cell) (room : ℕ) (r : Written) : Type 0 where
-  first : (at : Columns) → (r ≡ NoFit at) ↔ First cells at
-  short : (r ≡ NoRoom) ↔ (AllFit cells × (room < 80))
-  long : (r ≡ Line) ↔ (AllFit cells × (80 ≤ room))
+  first : (at : Columns) → (r ≡ Err (NoFit at)) ↔ First cells at
+  short : (r ≡ Err NoRoom) ↔ (AllFit cells × (room < 80))
+  long : (r ≡ Ok tt) ↔ (AllFit cells × (80 ≤ room))
 
-told_none : (room : ℕ) (b : Bool) → ltb room 80 ≡ b → Told [] room (cond b NoRoom Line)
+told_none : (room : ℕ) (b : Bool) → ltb room 80 ≡ b → Told [] room (cond b (Err NoRoom) (Ok tt))
 told_none room true f =
     let few = ltb-true room 80 f in record {
       first = λ at. (λ e. never (cc), absurd);
@@ -154,14 +154,14 @@ module _ (c : Cell) (rest : List Cell) (room : ℕ) (r : Written) where
     long = (λ e. let m = h.long.0 e in ((fits, m.0), m.1), λ m. h.long.1 (m.0.1, m.1));
   }
 
-  told_misfit : Misfit c → Told (c ∷ rest) room (NoFit (columns_of c))
+  told_misfit : Misfit c → Told (c ∷ rest) room (Err (NoFit (columns_of c)))
   told_misfit is = record {
-    first = λ at. (λ e. inl (is, cc), ⊎_elim (λ m. ap NoFit (sym m.1)) (λ m. absurd (m.0 is)));
+    first = λ at. (λ e. inl (is, cc), ⊎_elim (λ m. ap (λ (k : Columns). Err (NoFit k)) (sym m.1)) (λ m. absurd (m.0 is)));
     short = (λ e. never (cc), λ m. absurd (m.0.0 is));
     long = (λ e. never (cc), λ m. absurd (m.0.0 is));
   }
 
-  told_by_lem : (b : Bool) → Tells b (Misfit c) → Told rest room r → Told (c ∷ rest) room (cond b r (NoFit (columns_of c)))
+  told_by_lem : (b : Bool) → Tells b (Misfit c) → Told rest room r → Told (c ∷ rest) room (cond b r (Err (NoFit (columns_of c))))
   told_by_lem true t h = told_fit (t.1 refl) h
   told_by_lem false t h = told_misfit (t.0 refl)
 
@@ -172,10 +172,9 @@ told column (c ∷ rest) room h =
     let a = ascend-parts column c rest h in
     told_by_lem c rest room (answer_of rest room) (cell_fits c) (misfit_tells c a.wide) (told (columns_of c).end rest room a.more)
 
-kept : (old line : List ℕ) (r : Written) → (r ≡ Line → ⊥) → afterwards old line r ≡ old
-kept old line Line other = absurd (other refl)
-kept old line (NoFit at) other = refl
-kept old line NoRoom other = refl
+kept : (old line : List ℕ) (r : Written) → (r ≡ Ok tt → ⊥) → afterwards old line r ≡ old
+kept old line (Ok u) other = absurd (other refl)
+kept old line (Err why) other = refl
 
 pub written_when : (s : Sheet) → ascend (length s.name) s.cells ≡ true → (old new : List ℕ) (r : Written) → Writes old s r new → When old s r new
 written_when s h old new r w =

@@ -1,14 +1,13 @@
--- `sheet::mark` meets its contract, by its two tests.
+-- `sheet::mark` meets its contract, by its test.
 -- Assumes nothing.
-use mathlib.Core.Path.{sym}
-use Rattle.sheet.proofs.Laws.Draft.{mark-fits, mark-kept, mark_new}
+use mathlib.Core.Path.{refl}
+use Rattle.sheet.specs.Draft.{marked}
 use Rattle.sheet.proofs.mark.Goals as goal
 
 pub returns-then-put : goal.returns-then-put
-returns-then-put c = sym (mark-fits _ _ _ c.if-put.true)
-
-pub returns-then-first-gt0 : goal.returns-then-first-gt0
-returns-then-first-gt0 c = sym (mark-kept _ _ _ c.if-put.false c.if-first-gt0.true)
+unfolding marked
+returns-then-put c = rw c.if-put.true refl
 
 pub returns : goal.returns
-returns c = sym (mark_new _ _ _ c.if-put.false c.if-first-gt0.false)
+unfolding marked
+returns c = rw (c.if-put.false, c.or.ensures) refl
