@@ -47,7 +47,7 @@ use saltighedda::read::saltighedda_read;
 use saltighedda::{
     saltighedda_list, saltighedda_list_length, saltighedda_list_place, saltighedda_list_refusal,
 };
-use sheet::Written;
+use sheet::Unwritten;
 use std::io::Read;
 use writer::{write_as_read, write_record};
 
@@ -260,14 +260,14 @@ fn name_of<'a>(line: &'a [u8], blanks: &'a [u8]) -> &'a [u8] {
 }
 
 // An answer as one number, as the entries for C have it.
-fn packed(written: Written) -> usize {
+fn packed(written: Result<(), Unwritten>) -> usize {
     match written {
-        Written::Line => 0,
-        Written::NoFit(at) => {
+        Ok(()) => 0,
+        Err(Unwritten::NoFit(at)) => {
             let width = at.width() as usize;
             9 * 281474976710656 + at.start as usize * 4294967296 + width
         }
-        Written::NoRoom => 8 * 281474976710656 + 80,
+        Err(Unwritten::NoRoom) => 8 * 281474976710656 + 80,
     }
 }
 

@@ -20,7 +20,7 @@ use printer::atoms::{write_anisou, write_atom};
 use printer::bare::{Bare, write_bare, write_model};
 use printer::rows::{write_mtrix, write_origx, write_scale};
 use printer::unit_cell::write_cell;
-use sheet::Written;
+use sheet::Unwritten;
 
 // The name of a record, which of a kind that isn't written doesn't fit.
 const NAME: Columns = Columns { start: 0, end: 6 };
@@ -32,7 +32,7 @@ fn write_atom_record<'a>(
     name: &[u8],
     places: &[u8],
     out: &mut [u8],
-) -> Written
+) -> Result<(), Unwritten>
     ensures { sheets.Writes out.old (atom_sheet atom.hetero (specs.label_of atom.basics line.now stand_in.now name.now) atom.position atom.occupancy atom.bfactor places.now) result out.new }
 {
     let basics = atom.basics;
@@ -69,7 +69,7 @@ fn write_anisou_record<'a>(
     stand_in: &'a [u8],
     name: &[u8],
     out: &mut [u8],
-) -> Written
+) -> Result<(), Unwritten>
     ensures { sheets.Writes out.old (anisou_sheet (specs.label_of anisou.basics line.now stand_in.now name.now) anisou.factors) result out.new }
 {
     let basics = anisou.basics;
@@ -102,7 +102,7 @@ fn write_crystal_record<'a>(
     stand_in: &'a [u8],
     places: &[u8],
     out: &mut [u8],
-) -> Written
+) -> Result<(), Unwritten>
     ensures { sheets.Writes out.old (cell_sheet crystal.cell (view_of line.now stand_in.now (Words crystal.spacegroup)) crystal.z places.now) result out.new }
 {
     let cell = crystal.cell;
@@ -126,10 +126,10 @@ pub fn write_record<'a>(
     name: &[u8],
     places: &[u8],
     out: &mut [u8],
-) -> Written
+) -> Result<(), Unwritten>
     ensures { sheets.Writes out.old (specs.item_sheet item line.now stand_in.now name.now places.now) result out.new }
 {
-    let another = Written::NoFit(NAME);
+    let another = Err(Unwritten::NoFit(NAME));
     match item {
         LexItem::Empty => another,
         LexItem::Header(_) => another,
@@ -171,7 +171,7 @@ pub fn write_as_read<'a>(
     stand_in: &'a [u8],
     name: &[u8],
     out: &mut [u8],
-) -> Written
+) -> Result<(), Unwritten>
     ensures { sheets.Writes out.old (specs.item_sheet item line.now stand_in.now name.now (places_of (fields_of item))) result out.new }
 {
     let mut bytes = [0u8; 16];

@@ -9,7 +9,7 @@ use lexitem::answer::Outcome;
 use lexitem::item::LexItem;
 use line::columns::Columns;
 use line::options::Options;
-use sheet::Written;
+use sheet::Unwritten;
 use walker::lines::{Step, line};
 use walker::step;
 use writer::{write_as_read, write_record};
@@ -33,14 +33,14 @@ fn put_refusal(rt: &impl Print, number: u64, place: u64, length: u64) {
     put(rt, b"\n");
 }
 
-fn put_written(rt: &impl Print, written: Written, bytes: &[u8]) {
+fn put_written(rt: &impl Print, written: Result<(), Unwritten>, bytes: &[u8]) {
     match written {
-        Written::Line => {
+        Ok(()) => {
             put(rt, bytes);
             put(rt, b"\n");
         }
-        Written::NoFit(at) => put_refusal(rt, 9, at.start as u64, at.width() as u64),
-        Written::NoRoom => put_refusal(rt, 8, 0, 80),
+        Err(Unwritten::NoFit(at)) => put_refusal(rt, 9, at.start as u64, at.width() as u64),
+        Err(Unwritten::NoRoom) => put_refusal(rt, 8, 0, 80),
     }
 }
 

@@ -1,8 +1,7 @@
 -- The entries that write: "one 64-bit number: 0 is done, else a refusal as `number * 2^48 + place * 2^32 + length`. hetero 0 is ATOM, anything else
 -- HETATM; given 0 is blank, anything else `1`. family or which above 2 is another kind: 9 (0, 6)."
 use Rattle.std.specs.Prelude.{ℕ, ◌≡◌, cond, not, List, length, eqb, Float}
-use Rattle.sheet.specs.Sheet.{Sheet, other_kind, answer_of, afterwards, line_of, numbers_of}
-use Rattle.sheet.specs.declared.Written.{Written}
+use Rattle.sheet.specs.Sheet.{Written, Sheet, other_kind, answer_of, afterwards, line_of, numbers_of}
 use Rattle.packing.specs.Packed.{packed_as}
 use Rattle.printer.specs.Sheets.{Label, atom_sheet, anisou_sheet, cell_sheet, scale_sheet, origx_sheet, mtrix_sheet, bare_sheet}
 use Rattle.transformation.specs.declared.record.Transformation.{Transformation}

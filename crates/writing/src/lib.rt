@@ -12,23 +12,23 @@ use printer::atoms::{write_anisou, write_atom};
 use printer::bare::{Bare, write_bare, write_model};
 use printer::rows::{write_mtrix, write_origx, write_scale};
 use printer::unit_cell::write_cell;
-use sheet::Written;
+use sheet::Unwritten;
 use transformation::record::Transformation;
 
 // The name of a record, which of another kind doesn't fit.
 const NAME: Columns = Columns { start: 0, end: 6 };
 
 // An answer as one number: 0 for a line, or a refusal's number, place and length.
-fn packed(written: Written) -> u64
+fn packed(written: Result<(), Unwritten>) -> u64
     ensures { result ≡ specs.packed written }
 {
     match written {
-        Written::Line => 0,
-        Written::NoFit(at) => {
+        Ok(()) => 0,
+        Err(Unwritten::NoFit(at)) => {
             let width = at.width() as u64;
             9 * 281474976710656 + at.start as u64 * 4294967296 + width
         }
-        Written::NoRoom => 8 * 281474976710656 + 80,
+        Err(Unwritten::NoRoom) => 8 * 281474976710656 + 80,
     }
 }
 
@@ -173,7 +173,7 @@ pub fn pack_row(
     if family == 2 {
         return packed(write_mtrix(row as usize, serial, values, given != 0, places, out));
     }
-    packed(Written::NoFit(NAME))
+    packed(Err(Unwritten::NoFit(NAME)))
 }
 
 pub fn pack_model(number: u64, out: &mut [u8]) -> u64
@@ -194,5 +194,5 @@ pub fn pack_bare(which: u32, out: &mut [u8]) -> u64
     if which == 2 {
         return packed(write_bare(Bare::End, out));
     }
-    packed(Written::NoFit(NAME))
+    packed(Err(Unwritten::NoFit(NAME)))
 }

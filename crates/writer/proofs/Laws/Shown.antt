@@ -4,8 +4,7 @@ use mathlib.Core.Path.{◌≡◌}
 use mathlib.Core.List.{List}
 use Prim.Native.Nat.{ℕ}
 use lib.IntN.{ℤ}
-use Rattle.sheet.specs.Sheet.{Sheet, Writes}
-use Rattle.sheet.specs.declared.Written.{Written}
+use Rattle.sheet.specs.Sheet.{Written, Sheet, Writes}
 use Rattle.printer.specs.Sheets.{Label, label}
 
 pub written_by_lem : (sheet : Label → Sheet) (old new : List ℕ) (w : Written) (serial : ℕ) (name a a' r r' c c' : List ℕ) (n n' : ℤ)

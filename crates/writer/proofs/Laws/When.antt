@@ -11,10 +11,10 @@ use mathlib.Core.List.{List}
 use Prim.Native.Nat.{ℕ, ◌<◌}
 use lib.ListN.{length}
 use Rattle.line.specs.Columns.{◌⋯◌}
-use Rattle.sheet.specs.Sheet.{Sheet, ascend, Writes, other_kind}
+use Rattle.sheet.specs.Sheet.{Written, Sheet, ascend, Writes, other_kind}
 use Rattle.sheet.specs.When.{When}
-use Rattle.sheet.specs.declared.Written.{Written}
-use Rattle.sheet.specs.declared.Written.TheVariants.{NoFit}
+use Rattle.std.specs.Prelude.{Err}
+use Rattle.sheet.specs.declared.Unwritten.TheVariants.{NoFit}
 use Rattle.sheet.proofs.Laws.When.{written_when}
 use Rattle.transformation.specs.declared.record.Scale.{Scale}
 use Rattle.transformation.specs.declared.record.OrigX.{OrigX}
@@ -58,7 +58,7 @@ record_when item line standIn name asked old new r w =
     written_when (item_sheet item line standIn name asked) (item-ascends line standIn name asked item) old new r w
 
 pub other-refused : (item : LexItem) (line standIn name asked old new : List ℕ) (r : Written) → item_sheet item line standIn name asked ≡ other_kind
-    → Writes old (item_sheet item line standIn name asked) r new → r ≡ NoFit (0 ⋯ 6)
+    → Writes old (item_sheet item line standIn name asked) r new → r ≡ Err (NoFit (0 ⋯ 6))
 other-refused item line standIn name asked old new r e w =
     ((record_when item line standIn name asked old new r w).refused (0 ⋯ 6)).1 (rw e (inl (tt, refl)))
 
@@ -70,7 +70,7 @@ pub data RowOf : LexItem → ℕ → Type 0 where
 
 -- no field is in front of it, so what else doesn't fit is not told
 pub row_first : {i : LexItem} {row : ℕ} → RowOf i row → 2 < row → (line standIn name asked old new : List ℕ) (r : Written)
-    → Writes old (item_sheet i line standIn name asked) r new → r ≡ NoFit (5 ⋯ 6)
+    → Writes old (item_sheet i line standIn name asked) r new → r ≡ Err (NoFit (5 ⋯ 6))
 row_first (RowOf.scale v) high line standIn name asked old new r w =
     ((record_when (item.Scale v) line standIn name asked old new r w).refused (5 ⋯ 6)).1 (inl (high, refl))
 row_first (RowOf.origx v) high line standIn name asked old new r w =

@@ -6,16 +6,16 @@ use mathlib.Core.Path.{◌≡◌, refl, sym, ap, ◌∙◌}
 use Prim.Native.Nat.{ℕ}
 use mathlib.Core.List.{List}
 use Rattle.line.specs.Columns.{◌⋯◌}
-use Rattle.sheet.specs.Sheet.{Sheet, Writes, answer_of, afterwards, line_of, other_kind}
-use Rattle.sheet.specs.declared.Written.{Written}
-use Rattle.sheet.specs.declared.Written.TheVariants.{NoFit}
+use Rattle.sheet.specs.Sheet.{Written, Sheet, Writes, answer_of, afterwards, line_of, other_kind}
+use Rattle.std.specs.Prelude.{Err}
+use Rattle.sheet.specs.declared.Unwritten.TheVariants.{NoFit}
 use Rattle.writing.specs.Write.{packed, Packs}
 
 pub packs : (old new : List ℕ) (s : Sheet) (w : Written) (r : ℕ) → Writes old s w new → r ≡ packed w → Packs old s r new
 packs old new s w r h e =
     record { answers = e ∙ ap packed h.answers; leaves = h.leaves ∙ ap (afterwards old (line_of s)) h.answers }
 
-pub packs-other : (old : List ℕ) (r : ℕ) → r ≡ packed (NoFit (0 ⋯ 6)) → Packs old other_kind r old
+pub packs-other : (old : List ℕ) (r : ℕ) → r ≡ packed (Err (NoFit (0 ⋯ 6))) → Packs old other_kind r old
 unfolding answer_of
 packs-other old r e = record { answers = e; leaves = refl }
 
