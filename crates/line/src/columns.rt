@@ -20,39 +20,23 @@ impl Columns {
     pub fn width(self) -> u16
         ensures { result ≡ self.end - self.start }
     {
-        let start = self.start;
-        let end = self.end;
-        if end < start {
-            return 0;
-        }
-        end - start
+        self.end.saturating_sub(self.start)
     }
 
     // The part of the line in these columns, empty where the line doesn't reach their end.
     pub fn part(self, line: &[u8]) -> &[u8]
         ensures { result.now ≡ part_of line.now self }
     {
-        let start = self.start as usize;
-        let end = self.end as usize;
-        if line.len() < end {
-            return &line[..0];
-        }
-        if end < start {
-            return &line[..0];
-        }
-        &line[start..end]
+        line.get(self.start as usize..self.end as usize)
+            .unwrap_or(&line[..0])
     }
 
     // What the line reaches of these columns.
     pub fn reached(self, line: &[u8]) -> &[u8]
         ensures { result.now ≡ reached_of line.now self }
     {
-        let width = self.width() as usize;
         let rest = from_column(line, self.start as usize);
-        if rest.len() < width {
-            return rest;
-        }
-        &rest[..width]
+        rest.get(..self.width() as usize).unwrap_or(rest)
     }
 }
 
@@ -60,8 +44,5 @@ impl Columns {
 pub fn from_column(line: &[u8], start: usize) -> &[u8]
     ensures { result.now ≡ rest_of line.now start }
 {
-    if line.len() < start {
-        return &line[..0];
-    }
-    &line[start..]
+    line.get(start..).unwrap_or(&line[..0])
 }

@@ -59,7 +59,8 @@ impl Fault {
     }
 }
 
-// The faults noted: the first `count` of the list, in their order.
+// The faults noted: the first `count` of the list, in their order. An array and a count, since the list is handed over by value
+// beside the record, to C hosts too, and nothing here allocates (document 01).
 #[derive(Clone, Copy)]
 pub struct Faults {
     pub list: [Fault; Faults::MOST],

@@ -2,6 +2,8 @@
 ghost use Rattle.std.specs.Prelude.{◌≡◌};
 ghost use Rattle.line.specs.Text.{view_of, within_of};
 
+use crate::columns::from_column;
+
 // A text: where it begins in the line and how many bytes it has. An empty one has place 0, length 0.
 #[derive(Clone, Copy)]
 pub struct Text {
@@ -36,13 +38,7 @@ pub enum Field {
 fn within(line: &[u8], place: usize, length: usize) -> &[u8]
     ensures { result.now ≡ within_of line.now place length }
 {
-    if line.len() < place {
-        return &line[..0];
-    }
-    if line.len() - place < length {
-        return &line[..0];
-    }
-    &line[place..place + length]
+    from_column(line, place).get(..length).unwrap_or(&line[..0])
 }
 
 // The part of the line that a field is; for a character that the line doesn't reach, the stand-in.

@@ -1,31 +1,24 @@
 -- `line::columns::Columns::part` meets its contract: where the columns end before they start, none are taken.
 -- Assumes nothing.
-use Prim.Native.Nat.{◌-◌}
-use mathlib.Core.Path.{◌≡◌, refl}
-use native.Mathlib.Omega.{arith}
+use Rattle.std.proofs.Common.{◌≡◌, ◌-◌, refl, inl, inr, Bool, true, false, cond, List, [], ℕ, length, arith, ltb}
 use borrow.Author.Tests.{lt-ltb, le-ltb}
-use lib.ListN.{length}
 use Rattle.line.specs.Columns.{part_of}
+use Rattle.line.proofs.Laws.Parts.{part-or}
 use Rattle.line.proofs.columns.Columns.part.Goals as goal
 
-pub returns-then-line-end : goal.returns-then-line-end
-unfolding part_of
-returns-then-line-end c =
-    let a = c.args.self in
-    let l = c.args.line.now in
-    rw (lt-ltb (length l) a.end (omega arith)) refl
-
-pub returns-then-end-start : goal.returns-then-end-start
-unfolding part_of
-returns-then-end-start c =
-    let a = c.args.self in
-    let l = c.args.line.now in
-    let z : a.end - a.start ≡ 0 = omega arith in
-    rw (le-ltb (length l) a.end (omega arith), z) refl
+none : (b : Bool) → ◌≡◌ {A = List ℕ} [] (cond b [] [])
+none true = refl
+none false = refl
 
 pub returns : goal.returns
 unfolding part_of
 returns c =
     let a = c.args.self in
     let l = c.args.line.now in
-    rw (le-ltb (length l) a.end (omega arith)) refl
+    rw c.unwrap_or.ensures
+    (part-or (λ t. t ≡ part_of l a) l a.start a.end _ _ c.get.ensures.lookup
+    (λ h. elim h [
+      | inl k ↦ let z : a.end - a.start ≡ 0 = omega arith in rw z (none (ltb (length l) a.end))
+      | inr k ↦ rw (lt-ltb (length l) a.end k) refl
+    ])
+    (λ h k. rw (le-ltb (length l) a.end k) refl))
