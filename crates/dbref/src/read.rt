@@ -25,11 +25,10 @@ fn lex_segment(
     let opening = character(line, opening, begin.faults);
     let end = signed(line, end, opening.faults);
     let closing = character(line, closing, end.faults);
-    let first = opening.value;
-    let last = closing.value;
-    let value = Segment::new(begin.value, first, end.value, last);
-    let faults = closing.faults;
-    Got { value, faults }
+    Got {
+        value: Segment::new(begin.value, opening.value, end.value, closing.value),
+        faults: closing.faults,
+    }
 }
 
 pub fn lex_dbref(line: &[u8]) -> Got<Dbref>
@@ -65,10 +64,9 @@ pub fn lex_dbref(line: &[u8]) -> Got<Dbref>
         name.value,
         target.value,
     );
-    let faults = target.faults;
     Got {
         value: dbref,
-        faults,
+        faults: target.faults,
     }
 }
 
@@ -96,10 +94,9 @@ pub fn lex_dbref1(line: &[u8], mode: Mode) -> Got<Dbref1>
         name.value,
         mode,
     );
-    let faults = name.faults;
     Got {
         value: dbref,
-        faults,
+        faults: name.faults,
     }
 }
 
@@ -118,9 +115,8 @@ pub fn lex_dbref2(line: &[u8]) -> Got<Dbref2>
         begin.value,
         end.value,
     );
-    let faults = end.faults;
     Got {
         value: dbref,
-        faults,
+        faults: end.faults,
     }
 }

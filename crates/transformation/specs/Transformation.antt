@@ -13,8 +13,7 @@ use Rattle.row.specs.declared.Row.{Row}
 use Rattle.row.specs.declared.Value.TheVariants.{Unsigned, Real, Flag}
 use Rattle.transformation.specs.declared.record.Transformation.{Transformation}
 use Rattle.transformation.specs.declared.record.RowPlaces.{RowPlaces}
-use Rattle.transformation.specs.declared.record.Scale.{Scale}
-use Rattle.transformation.specs.declared.record.OrigX.{OrigX}
+use Rattle.transformation.specs.declared.record.NumberedRow.{NumberedRow}
 use Rattle.transformation.specs.declared.record.MtriX.{MtriX}
 
 -- the columns by name, for the records and their rows; the tables have them in numbers
@@ -49,11 +48,9 @@ transformation_of on l = record {
 abbrev pub row_places_of : Bool → List ℕ → RowPlaces
 row_places_of on l = record { a = places_at on l (at a); b = places_at on l (at b); c = places_at on l (at c); d = places_at on l (at d) }
 
-abbrev pub scale_of : ℕ → Bool → List ℕ → Scale
-scale_of row on l = record { row = row; values = transformation_of on l; places = row_places_of on l }
-
-abbrev pub origx_of : ℕ → Bool → List ℕ → OrigX
-origx_of row on l = record { row = row; values = transformation_of on l; places = row_places_of on l }
+-- of a SCALE and of an ORIGX
+abbrev pub numbered_of : ℕ → Bool → List ℕ → NumberedRow
+numbered_of row on l = record { row = row; values = transformation_of on l; places = row_places_of on l }
 
 -- a byte past the line's end is no `1`
 abbrev pub given_of : List ℕ → Bool
@@ -68,11 +65,8 @@ mtrix_of row on l = record {
   given = given_of l;
 }
 
-abbrev pub got_scale : ℕ → Given → Got Scale
-got_scale row g = record { value = scale_of row g.options.exponents g.line; faults = table_noted g transformation_table no_faults }
-
-abbrev pub got_orig_x : ℕ → Given → Got OrigX
-got_orig_x row g = record { value = origx_of row g.options.exponents g.line; faults = table_noted g transformation_table no_faults }
+abbrev pub got_numbered : ℕ → Given → Got NumberedRow
+got_numbered row g = record { value = numbered_of row g.options.exponents g.line; faults = table_noted g transformation_table no_faults }
 
 abbrev pub got_mtri_x : ℕ → Given → Got MtriX
 got_mtri_x row g = record { value = mtrix_of row g.options.exponents g.line; faults = table_noted g mtrix_table no_faults }
@@ -85,11 +79,8 @@ transformation_fields v n =
     ∷ (at d).start is Real v.d n.d
     ∷ []
 
-abbrev pub scale_fields : Scale → List Row
-scale_fields v = transformation_fields v.values v.places
-
-abbrev pub origx_fields : OrigX → List Row
-origx_fields v = transformation_fields v.values v.places
+abbrev pub numbered_fields : NumberedRow → List Row
+numbered_fields v = transformation_fields v.values v.places
 
 abbrev pub mtrix_fields : MtriX → List Row
 mtrix_fields v =

@@ -28,7 +28,8 @@ impl Transformation {
     }
 }
 
-// How many digits stood behind the point of each, 0 where it is its default.
+// How many digits stood behind the point of each, 0 where it is its default. They stand beside the values, since those who write a row or move
+// a position take the values alone.
 #[derive(Clone, Copy)]
 pub struct RowPlaces {
     pub a: u8,
@@ -37,39 +38,19 @@ pub struct RowPlaces {
     pub d: u8,
 }
 
-// A SCALEn.
+// A SCALEn or an ORIGXn: both hold a row of a transformation, in the same columns.
 #[derive(Clone, Copy)]
-pub struct Scale {
+pub struct NumberedRow {
     pub row: usize,
     pub values: Transformation,
     pub places: RowPlaces,
 }
 
-impl Scale {
+impl NumberedRow {
     pub fn new(row: usize, values: Transformation, places: RowPlaces) -> Self
         ensures { result ≡ record { row = row; values = values; places = places } }
     {
-        Scale {
-            row,
-            values,
-            places,
-        }
-    }
-}
-
-// An ORIGXn.
-#[derive(Clone, Copy)]
-pub struct OrigX {
-    pub row: usize,
-    pub values: Transformation,
-    pub places: RowPlaces,
-}
-
-impl OrigX {
-    pub fn new(row: usize, values: Transformation, places: RowPlaces) -> Self
-        ensures { result ≡ record { row = row; values = values; places = places } }
-    {
-        OrigX {
+        NumberedRow {
             row,
             values,
             places,
