@@ -9,15 +9,9 @@ use field::number_field::{GotUnsigned, real, unsigned_from};
 use field::text_field::text_within;
 use line::fault::{Faults, Got};
 
-#[derive(Clone, Copy)]
-pub struct GotCell {
-    pub value: Cell,
-    pub places: CellPlaces,
-    pub faults: Faults,
-}
-
-fn lex_cell(line: &[u8], exponents: bool, faults: Faults) -> GotCell
-    ensures { result ≡ record { value = specs.cell_of exponents line.now; places = specs.cell_places_of exponents line.now; faults = table_noted (taking exponents line.now) specs.cell_table faults } }
+// The cell with its numbers' places.
+fn lex_cell(line: &[u8], exponents: bool, faults: Faults) -> Got<(Cell, CellPlaces)>
+    ensures { result ≡ record { value = (specs.cell_of exponents line.now, specs.cell_places_of exponents line.now); faults = table_noted (taking exponents line.now) specs.cell_table faults } }
 {
     let a = real(line, Cell::A, 0.0, exponents, faults);
     let b = real(line, Cell::B, 0.0, exponents, a.faults);
@@ -25,7 +19,7 @@ fn lex_cell(line: &[u8], exponents: bool, faults: Faults) -> GotCell
     let alpha = real(line, Cell::ALPHA, 0.0, exponents, c.faults);
     let beta = real(line, Cell::BETA, 0.0, exponents, alpha.faults);
     let gamma = real(line, Cell::GAMMA, 0.0, exponents, beta.faults);
-    let value = Cell::new(
+    let cell = Cell::new(
         a.value,
         b.value,
         c.value,
@@ -41,11 +35,9 @@ fn lex_cell(line: &[u8], exponents: bool, faults: Faults) -> GotCell
         beta: beta.places,
         gamma: gamma.places,
     };
-    let faults = gamma.faults;
-    GotCell {
-        value,
-        places,
-        faults,
+    Got {
+        value: (cell, places),
+        faults: gamma.faults,
     }
 }
 
@@ -64,13 +56,12 @@ fn lex_z(line: &[u8], faults: Faults) -> GotUnsigned
 pub fn lex_cryst(line: &[u8], exponents: bool) -> Got<Crystal>
     ensures { result ≡ specs.got_crystal (taking exponents line.now) }
 {
-    let cell = lex_cell(line, exponents, Faults::none());
+    let got = lex_cell(line, exponents, Faults::none());
+    let (cell, places) = got.value;
     let spacegroup = text_within(line, Crystal::SPACEGROUP);
-    let z = lex_z(line, cell.faults);
-    let crystal = Crystal::new(cell.value, cell.places, spacegroup, z.value);
-    let faults = z.faults;
+    let z = lex_z(line, got.faults);
     Got {
-        value: crystal,
-        faults,
+        value: Crystal::new(cell, places, spacegroup, z.value),
+        faults: z.faults,
     }
 }

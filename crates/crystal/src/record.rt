@@ -42,7 +42,8 @@ impl Cell {
     }
 }
 
-// How many digits stood behind the point of each, 0 where it is its default.
+// How many digits stood behind the point of each, 0 where it is its default. They stand beside the cell, since those who write one take its
+// numbers alone.
 #[derive(Clone, Copy)]
 pub struct CellPlaces {
     pub a: u8,

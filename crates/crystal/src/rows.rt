@@ -11,7 +11,6 @@ pub fn crystal_rows(crystal: Crystal) -> Rows
 {
     let cell = crystal.cell;
     let places = crystal.places;
-    let spacegroup = crystal.spacegroup;
     Rows::of([
         Row(Cell::A.start, Value::Real(cell.a, places.a)),
         Row(Cell::B.start, Value::Real(cell.b, places.b)),
@@ -19,7 +18,7 @@ pub fn crystal_rows(crystal: Crystal) -> Rows
         Row(Cell::ALPHA.start, Value::Real(cell.alpha, places.alpha)),
         Row(Cell::BETA.start, Value::Real(cell.beta, places.beta)),
         Row(Cell::GAMMA.start, Value::Real(cell.gamma, places.gamma)),
-        Row(Crystal::SPACEGROUP.start, Value::Words(spacegroup)),
+        Row(Crystal::SPACEGROUP.start, Value::Words(crystal.spacegroup)),
         Row(Crystal::Z, Value::Unsigned(crystal.z)),
     ])
 }
