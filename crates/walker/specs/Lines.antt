@@ -72,9 +72,9 @@ has_lf found [] = found
 has_lf found (b ∷ t) = has_lf (cond (eqb b 10) true found) t
 
 -- what a look at a line of 80 bytes tells, if it tells something
-abbrev pub FullAt : List ℕ → ℕ → Bool → Type 0
-FullAt f at true = (at + 80 < length f) × (before_lf (drop at f) ≡ 80)
-FullAt f at false = Unit {0}
+abbrev pub Full : List ℕ → Bool → Type 0
+Full t true = (80 < length t) × (before_lf t ≡ 80)
+Full t false = Unit {0}
 
 -- ---- its number
 -- the number behind a line's, which stops at the last that there is

@@ -57,8 +57,5 @@ pub fn step(file: &[u8], at: usize) -> Option<Line>
 pub fn following(n: usize) -> usize
     ensures { result ≡ number_behind n }
 {
-    if n == 18446744073709551615 {
-        return n;
-    }
-    n + 1
+    n.saturating_add(1)
 }

@@ -1,6 +1,6 @@
 // A line ends at LF, a CR just before LF is dropped, and an empty last piece is no line.
-ghost use Rattle.std.specs.Prelude.{false, ◌≡◌, ◌+◌, ◌<◌, length, drop};
-ghost use Rattle.walker.specs.Lines.{before_lf, has_lf, FullAt, line_length, step_at, part_of};
+ghost use Rattle.std.specs.Prelude.{false, ◌≡◌, ◌+◌, ◌<◌, ◌≤◌, ◌==◌, length, drop, position};
+ghost use Rattle.walker.specs.Lines.{before_lf, has_lf, Full, line_length, step_at, part_of};
 
 use crate::Line;
 
@@ -9,82 +9,76 @@ fn has_lf(bytes: &[u8]) -> bool
     ensures { result ≡ has_lf false bytes.now }
 {
     let mut found = false;
-    let mut i = 0;
-    while i < bytes.len() {
-        if bytes[i] == 10 {
+    for b in bytes {
+        if *b == 10 {
             found = true;
         }
-        i += 1;
     }
     found
 }
 
-// An offset behind whole blocks of sixteen bytes that hold no LF.
-fn skip_blocks(file: &[u8], at: usize) -> usize
-    ensures { result + before_lf (drop result file.now) ≡ at + before_lf (drop at file.now) }
+// How many bytes at the front are passed in whole blocks of sixteen that hold no LF.
+fn free_blocks(rest: &[u8]) -> usize
+    ensures within { result ≤ length rest.now }
+    ensures free { result + before_lf (drop result rest.now) ≡ before_lf rest.now }
 {
-    let mut i = at;
-    while i < file.len() {
-        if file.len() - i < 16 {
-            return i;
+    let mut n = 0;
+    for block in rest.chunks_exact(16) {
+        if has_lf(block) {
+            return n;
         }
-        if has_lf(&file[i..i + 16]) {
-            return i;
-        }
-        i += 16;
+        n += 16;
     }
-    i
+    n
 }
 
-// Whether the line at an offset has 80 bytes, as most lines have. Its LF is looked at first, so that other lines lose little by it; and as the
+// Where the first LF stands, byte by byte.
+fn first_lf(bytes: &[u8]) -> Option<usize>
+    ensures { result ≡ position (λ b. b == 10) bytes.now }
+{
+    bytes.iter().position(|b| *b == 10)
+}
+
+// Whether the line at the front has 80 bytes, as most lines have. Its LF is looked at first, so that other lines lose little by it; and as the
 // blocks before it have known sizes, they are compared without a loop.
-fn is_full(file: &[u8], at: usize) -> bool
-    ensures { FullAt file.now at result }
+fn is_full(rest: &[u8]) -> bool
+    ensures { Full rest.now result }
 {
-    if file.len() <= at {
+    if rest.len() <= 80 {
         return false;
     }
-    if file.len() - at <= 80 {
+    if rest[80] != 10 {
         return false;
     }
-    if file[at + 80] != 10 {
+    if has_lf(&rest[..64]) {
         return false;
     }
-    if has_lf(&file[at..at + 64]) {
-        return false;
-    }
-    if has_lf(&file[at + 64..at + 80]) {
-        return false;
-    }
-    true
+    !has_lf(&rest[64..80])
 }
 
-// Where the first LF stands from an offset on, or the end of the file if there is none.
-fn find_lf(file: &[u8], at: usize) -> usize
-    ensures { result ≡ at + before_lf (drop at file.now) }
+// How many bytes stand before the first LF, or all of them if there is none. A line of 80 bytes is told at once, and other bytes are passed by blocks.
+fn find_lf(rest: &[u8]) -> usize
+    ensures { result ≡ before_lf rest.now }
 {
-    if is_full(file, at) {
-        return at + 80;
+    if is_full(rest) {
+        return 80;
     }
-    let mut i = skip_blocks(file, at);
-    while i < file.len() {
-        if file[i] == 10 {
-            return i;
-        }
-        i += 1;
+    let free = free_blocks(rest);
+    match first_lf(&rest[free..]) {
+        Some(more) => free + more,
+        None => rest.len(),
     }
-    i
 }
 
-// Where the line at an offset ends, by the LF that ends it: there, or at a CR just before.
-fn line_end(file: &[u8], at: usize, lf: usize) -> usize
-    requires { (lf ≡ at + before_lf (drop at file.now)) × (lf < length file.now) }
-    ensures { result ≡ at + line_length (drop at file.now) }
+// How many bytes the line at the front has, by the LF that ends it: those before the LF, without a CR just before it.
+fn without_cr(rest: &[u8], lf: usize) -> usize
+    requires { (lf ≡ before_lf rest.now) × (lf < length rest.now) }
+    ensures { result ≡ line_length rest.now }
 {
-    if lf == at {
+    if lf == 0 {
         return lf;
     }
-    if file[lf - 1] == 13 {
+    if rest[lf - 1] == 13 {
         return lf - 1;
     }
     lf
@@ -97,19 +91,19 @@ pub fn line_at(file: &[u8], at: usize) -> Option<Line>
     if file.len() <= at {
         return None;
     }
-    let lf = find_lf(file, at);
-    if file.len() <= lf {
+    let rest = &file[at..];
+    let lf = find_lf(rest);
+    if rest.len() <= lf {
         return Some(Line {
             start: at,
-            end: lf,
-            next: lf,
+            end: file.len(),
+            next: file.len(),
         });
     }
-    let end = line_end(file, at, lf);
     Some(Line {
         start: at,
-        end,
-        next: lf + 1,
+        end: at + without_cr(rest, lf),
+        next: at + lf + 1,
     })
 }
 
@@ -117,11 +111,5 @@ pub fn line_at(file: &[u8], at: usize) -> Option<Line>
 pub fn line<'a>(file: &'a [u8], start: usize, end: usize) -> &'a [u8]
     ensures { result.now ≡ part_of file.now start end }
 {
-    if end < start {
-        return &file[..0];
-    }
-    if file.len() < end {
-        return &file[..0];
-    }
-    &file[start..end]
+    file.get(start..end).unwrap_or(&[])
 }

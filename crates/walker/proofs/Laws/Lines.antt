@@ -1,7 +1,7 @@
 -- Laws of lines and of the steps from line to line.
 --     lines-first                   the lines of a text are its first, and those of what that leaves
 --     lines-le, lines-free          at most as many lines as bytes, and no LF in any of them
---     part-inside                   a part that lies in the file
+--     part-inside, part-outside     a part that lies in the file, and one that doesn't
 --     step_in, step_end             what a step is inside the file, and exactly when it is the end
 --     end-lines                     at the end there are no lines
 --     Served, step-served           what a step to a line tells: that line, and then the lines from `next`, which lies further on
@@ -9,7 +9,7 @@
 -- Assumes nothing.
 use Prim.Native.Nat.{ℕ, suc, ◌+◌, ◌-◌, ◌≤◌, ◌<◌}
 use mathlib.Core.Path.{◌≡◌, refl, sym, ap, ◌∙◌}
-use mathlib.Core.Logic.{◌↔◌, ⊎_elim}
+use mathlib.Core.Logic.{◌↔◌, ◌⊎◌, inl, inr, ⊎_elim}
 use mathlib.Core.Bool.{Bool, true, false, cond, ◌&&◌, ◌||◌}
 use mathlib.Core.List.Memᴰ
 use mathlib.Core.List.{List, [], ◌∷◌, Memᴰ}
@@ -17,10 +17,10 @@ use Rattle.std.proofs.Common.{Some, None}
 use Rattle.std.proofs.lemmas.Option.{same_Some}
 use native.Mathlib.Nat.{add-sub_cancel_left}
 use native.Mathlib.Omega.{arith}
-use borrow.Author.Tests.{lt-ltb, le-ltb, le-leb, ltb-true, ltb-false, eqb-false}
+use borrow.Author.Tests.{lt-ltb, le-ltb, le-leb, lt-leb, ltb-true, ltb-false, eqb-false}
 use lib.ListN.{length, take, drop, length-drop, drop_of_length-le}
 use lib.Seq.{drop-drop}
-use lib.Dec.{ltb, eqb}
+use lib.Dec.{leb, ltb, eqb}
 use Rattle.walker.specs.declared.Line.{Line}
 use Rattle.walker.specs.Lines.{lf_first, cr_before, longer, lines_of, line_length, line_taken, line_of, step_at, part_of, walked_for, walked}
 use Rattle.walker.proofs.Laws.Pieces.{length_taken, taken-le, taken-some}
@@ -96,6 +96,15 @@ lines-free (b ∷ t) l m i = go (eqb b 10) (cr_before b t) refl (lines-free t) l
 pub part-inside : (f : List ℕ) (start end : ℕ) → start ≤ end → end ≤ length f → part_of f start end ≡ take (end - start) (drop start f)
 unfolding part_of
 part-inside f start end a b = rw (le-leb start end a, le-leb end (length f) b) refl
+
+pub part-outside : (f : List ℕ) (start end : ℕ) → (end < start) ⊎ (length f < end) → part_of f start end ≡ []
+unfolding part_of
+part-outside f start end (inl h) = simp (lt-leb _ _ h)
+part-outside f start end (inr h) = rw (lt-leb end (length f) h) (no (leb start end))
+  where
+    no : (p : Bool) → cond (p && false) (take (end - start) (drop start f)) [] ≡ []
+    no true = refl
+    no false = refl
 
 -- ---- a step
 pub step_in : (f : List ℕ) (at : ℕ) → at < length f → step_at f at ≡ Some (line_of at (at + line_length (drop at f)) (at + line_taken (drop at f)))

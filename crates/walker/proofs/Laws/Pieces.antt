@@ -1,20 +1,27 @@
 -- Laws of a piece: the bytes up to an LF, or up to the end of the file.
 --     length_taken, taken-le, taken-some     a line is within what it takes up, which is some of the text
---     lf_here, lf-other, lf-none             one byte further, and the end, for the loop that looks for the LF
+--     lf_here, lf-other, lf-none             one byte further, and the end, for a loop that looks for the LF
+--     before-le, before-position             how many bytes stand before the LF, and that this is its position
+--     position-some, position-none           what the search for the LF finds
 --     end_none, end-cr, end-other            where a line ends, by the byte just before its LF: none, a CR, or another
+--     rest-all                               what follows an offset is all that follows it
 --     step-lf, step-last                     the step to a line that an LF ends, and to a last piece without one
 -- Assumes nothing.
 use Prim.Native.Nat.{ℕ, suc, ◌+◌, ◌-◌, ◌≤◌, ◌<◌}
-use mathlib.Core.Path.{◌≡◌, refl, ap, ◌∙◌}
+use mathlib.Core.Path.{◌≡◌, refl, sym, ap, ◌∙◌}
 use mathlib.Core.Bool.{Bool, true, false, cond, ◌&&◌, ◌||◌}
 use mathlib.Core.List.{List, [], ◌∷◌}
-use Rattle.std.proofs.Common.{Some}
+use Rattle.std.proofs.Common.{Some, None}
+use Rattle.std.specs.List.{position, position_or_len}
+use Rattle.std.proofs.lemmas.List.Quantifiers.{position-Some}
+use Rattle.std.proofs.lemmas.Option.{same_Some, none-some}
+use Rattle.std.proofs.lemmas.List.Recursion.{is_position_or_len}
 use native.Mathlib.Numerals.{add-one}
 use native.Mathlib.Omega.{arith}
-use borrow.Author.Tests.{lt-ltb, eq-eqb, ne_eqb}
-use lib.ListN.{length, drop, get_or, length-drop, drop_of_length-le}
-use lib.Seq.{drop-cons, get_or-drop}
-use lib.Dec.{eqb}
+use borrow.Author.Tests.{ltb-false, lt-ltb, eq-eqb, ne_eqb}
+use lib.ListN.{length, take, drop, get_or, length-drop, drop_of_length-le}
+use lib.Seq.{take_all, drop-cons}
+use lib.Dec.{ltb, eqb}
 use Rattle.walker.specs.Lines.{lf_first, cr_before, line_length, line_taken, line_of, step_at, before_lf}
 
 -- ---- what the first line takes up
@@ -59,6 +66,39 @@ module _ (f : List ℕ) (i : ℕ) (h : i < length f) where
 pub lf-none : (f : List ℕ) (i : ℕ) → length f ≤ i → before_lf (drop i f) ≡ 0
 unfolding before_lf
 lf-none f i h = rw (drop_of_length-le f h) refl
+
+pub before-le : (t : List ℕ) → before_lf t ≤ length t
+unfolding before_lf
+before-le [] = omega arith
+before-le (b ∷ t) = go (eqb b 10) (before-le t)
+  where
+    go : (p : Bool) → before_lf t ≤ length t → cond p 0 (suc (before_lf t)) ≤ suc (length t)
+    go true h = omega arith
+    go false h = omega arith
+
+pub before-position : (t : List ℕ) → before_lf t ≡ position_or_len (λ b. eqb b 10) t
+unfolding before_lf
+before-position t = is_position_or_len before_lf (λ b. eqb b 10) refl (λ b t. go (eqb b 10) (before_lf t)) t
+  where
+    go : (p : Bool) (n : ℕ) → cond p 0 (suc n) ≡ cond p 0 (1 + n)
+    go true n = refl
+    go false n = omega arith
+
+pub position-some : (t : List ℕ) (n : ℕ) → Some n ≡ position (λ b. eqb b 10) t → (n < length t) × (n ≡ before_lf t)
+position-some t n e =
+    let p = position-Some (λ b. eqb b 10) t n 0 (sym e) in
+    (p.0, rw (before-position t) (go (ltb (position_or_len (λ b. eqb b 10) t) (length t)) e))
+  where
+    go : (b : Bool) → Some n ≡ cond b (Some (position_or_len (λ b. eqb b 10) t)) None → n ≡ position_or_len (λ b. eqb b 10) t
+    go true e = same_Some _ _ e
+    go false e = absurd (none-some n (sym e))
+
+pub position-none : (t : List ℕ) → None ≡ position (λ b. eqb b 10) t → before_lf t ≡ length t
+position-none t e = go (ltb (before_lf t) (length t)) refl (rw (← before-position t) at e)
+  where
+    go : (b : Bool) → ltb (before_lf t) (length t) ≡ b → None ≡ cond b (Some (before_lf t)) None → before_lf t ≡ length t
+    go true h e = absurd (none-some _ e)
+    go false h e = omega (arith, ltb-false (before_lf t) (length t) h, before-le t)
 
 -- ---- without an LF
 taken-all : (t : List ℕ) → length t ≤ before_lf t → line_taken t ≡ before_lf t
@@ -159,42 +199,39 @@ length-kept (b ∷ t) h = go (eqb b 10) (length-kept t) h
         let l : before_lf t < length t = omega arith in
         kept_cons b t (before_lf t) refl l (ih l)
 
+-- ---- the line at the front, by its LF
+module _ (t : List ℕ) (lf : ℕ) (e : lf ≡ before_lf t) (h : lf < length t) where
+  by-lf : line_length t ≡ kept t lf
+  by-lf = rw e (length-kept t (rw e at h))
+
+  pub end_none : lf ≡ 0 → lf ≡ line_length t
+  end_none z = rw (by-lf, z) refl
+
+  -- by the byte just before the LF
+  before : (lf ≡ 0 → ⊥) → line_length t ≡ cond (eqb (get_or t (lf - 1) 0) 13) (lf - 1) lf
+  before z = let s : lf ≡ suc (lf - 1) = omega arith in by-lf ∙ ap (kept t) s ∙ rw (← s) refl
+
+  pub end-cr : (lf ≡ 0 → ⊥) → get_or t (lf - 1) 0 ≡ 13 → lf - 1 ≡ line_length t
+  end-cr z b = rw (before z, eq-eqb (get_or t (lf - 1) 0) 13 b) refl
+
+  pub end-other : (lf ≡ 0 → ⊥) → (get_or t (lf - 1) 0 ≡ 13 → ⊥) → lf ≡ line_length t
+  end-other z b = rw (before z, ne_eqb (get_or t (lf - 1) 0) 13 b) refl
+
 -- ---- in a file, from an offset on
-module _ (f : List ℕ) (at lf : ℕ) (e : lf ≡ at + before_lf (drop at f)) where
-  module _ (h : lf < length f) where
-    lf-inside : before_lf (drop at f) < length (drop at f)
-    lf-inside = omega (arith, length-drop at f)
+pub rest-all : (f : List ℕ) (at : ℕ) → take (length f - at) (drop at f) ≡ drop at f
+rest-all f at = take_all (length f - at) (drop at f) (omega (arith, length-drop at f))
 
-    pub end_none : lf ≡ at → lf ≡ at + line_length (drop at f)
-    end_none z =
-        let n : before_lf (drop at f) ≡ 0 = omega arith in
-        let l : line_length (drop at f) ≡ 0 = rw n at (length-kept (drop at f) lf-inside) in
-        omega arith
-
-    -- by the byte just before the LF
-    before : (lf ≡ at → ⊥) → line_length (drop at f) ≡ cond (eqb (get_or f (lf - 1) 0) 13) (lf - 1 - at) (lf - at)
-    before z =
-        let m = lf - 1 - at in
-        let n : before_lf (drop at f) ≡ suc m = omega arith in
-        let i : at + m ≡ lf - 1 = omega arith in
-        let s : suc m ≡ lf - at = omega arith in
-        let g : get_or (drop at f) m 0 ≡ get_or f (lf - 1) 0 = get_or-drop at f m 0 ∙ ap (λ (k : ℕ). get_or f k 0) i in
-        length-kept (drop at f) lf-inside ∙ rw n (rw (g, s) refl)
-
-    pub end-cr : (lf ≡ at → ⊥) → get_or f (lf - 1) 0 ≡ 13 → lf - 1 ≡ at + line_length (drop at f)
-    end-cr z b = let l : line_length (drop at f) ≡ lf - 1 - at = rw (eq-eqb (get_or f (lf - 1) 0) 13 b) at (before z) in omega arith
-
-    pub end-other : (lf ≡ at → ⊥) → (get_or f (lf - 1) 0 ≡ 13 → ⊥) → lf ≡ at + line_length (drop at f)
-    end-other z b = let l : line_length (drop at f) ≡ lf - at = rw (ne_eqb (get_or f (lf - 1) 0) 13 b) at (before z) in omega arith
-
-    pub step-lf : (end : ℕ) → end ≡ at + line_length (drop at f) → Some (line_of at end (lf + 1)) ≡ step_at f at
-    unfolding step_at
-    step-lf end g =
-        let n : lf + 1 ≡ at + line_taken (drop at f) = omega (arith, taken-lf (drop at f) lf-inside) in
-        rw (lt-ltb at (length f) (omega arith), g, n) refl
-
-  pub step-last : at < length f → length f ≤ lf → Some (line_of at lf lf) ≡ step_at f at
+module _ (f : List ℕ) (at lf : ℕ) (i : at < length f) (e : lf ≡ before_lf (drop at f)) where
+  pub step-lf : (n : ℕ) → lf < length (drop at f) → n ≡ line_length (drop at f) → Some (line_of at (at + n) (at + lf + 1)) ≡ step_at f at
   unfolding step_at
-  step-last i h =
-      let all : length (drop at f) ≤ before_lf (drop at f) = omega (arith, length-drop at f) in
-      rw (lt-ltb at (length f) i, e, length-all (drop at f) all, taken-all (drop at f) all) refl
+  step-lf n h l =
+      let p : at + lf + 1 ≡ at + line_taken (drop at f) = omega (arith, taken-lf (drop at f) (rw e at h)) in
+      rw (lt-ltb at (length f) i, l, p) refl
+
+  pub step-last : length (drop at f) ≤ lf → Some (line_of at (length f) (length f)) ≡ step_at f at
+  unfolding step_at
+  step-last h =
+      let all : length (drop at f) ≤ before_lf (drop at f) = rw e at h in
+      let p : at + line_length (drop at f) ≡ length f = omega (arith, length-drop at f, length-all (drop at f) all, before-le (drop at f)) in
+      let q : at + line_taken (drop at f) ≡ length f = omega (arith, length-drop at f, taken-all (drop at f) all, before-le (drop at f)) in
+      rw (lt-ltb at (length f) i, p, q) refl
