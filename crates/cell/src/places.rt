@@ -7,18 +7,18 @@ use crate::power::raised;
 
 // The digits of a decimal and its sign. More than ten digits fit no column, and a NaN or an infinity has none.
 #[derive(Clone, Copy)]
-pub enum Places {
-    Rounded { minus: bool, digits: u64 },
-    NoFit,
+pub struct Rounded {
+    pub minus: bool,
+    pub digits: u64,
 }
 
-fn within(minus: bool, n: u64) -> Places
+fn within(minus: bool, n: u64) -> Option<Rounded>
     ensures { result ≡ specs.within minus n }
 {
     if n < 10000000000 {
-        return Places::Rounded { minus, digits: n };
+        return Some(Rounded { minus, digits: n });
     }
-    Places::NoFit
+    None
 }
 
 // 2^n.
@@ -31,7 +31,7 @@ fn two(n: u64) -> u64
 
 // The whole number nearest to digits * power / 2^shift, a tie to the even one. The product is worked out in two parts, the lower
 // of 16 bits: it can be larger than 64 bits.
-fn scaled(minus: bool, digits: u64, power: u64, shift: u64) -> Places
+fn scaled(minus: bool, digits: u64, power: u64, shift: u64) -> Option<Rounded>
     requires digits_bound { digits < 2 ^ 53 }
     requires power_bound { power < 2 ^ 21 }
     requires le_shift { 17 ≤ shift }
@@ -58,12 +58,12 @@ fn scaled(minus: bool, digits: u64, power: u64, shift: u64) -> Places
 
 // x in so few places. By its bits a double is a whole number over a power of two: ten times ten and so on is a power of five and one of two,
 // so that the power of two is left to a shift.
-fn round_few(x: f64, places: usize) -> Places
+fn round_few(x: f64, places: usize) -> Option<Rounded>
     requires { places ≤ 9 }
     ensures { result ≡ specs.rounded_to places x }
 {
     if x != x {
-        return Places::NoFit;
+        return None;
     }
     let bits = f64::to_bits(x);
     let minus = 0x8000_0000_0000_0000 <= bits;
@@ -71,10 +71,10 @@ fn round_few(x: f64, places: usize) -> Places
     let digits = bits % 0x10_0000_0000_0000;
     let least = 1075 - places as u64;
     if least <= field + 16 {
-        return Places::NoFit;
+        return None;
     }
     if field + 80 <= least {
-        return Places::Rounded { minus, digits: 0 };
+        return Some(Rounded { minus, digits: 0 });
     }
     scaled(
         minus,
@@ -85,11 +85,11 @@ fn round_few(x: f64, places: usize) -> Places
 }
 
 // x in so many places.
-pub fn round_to(x: f64, places: usize) -> Places
+pub fn round_to(x: f64, places: usize) -> Option<Rounded>
     ensures { result ≡ specs.places_of places x }
 {
     if 9 < places {
-        return Places::NoFit;
+        return None;
     }
     round_few(x, places)
 }

@@ -3,6 +3,7 @@ ghost use Rattle.std.specs.Prelude.{◌≡◌, [], ◌≤◌};
 ghost use Rattle.cell.specs.Text as specs;
 ghost use Rattle.page.specs.Page.{page, put};
 
+use crate::places::Rounded;
 use crate::power::raised;
 use page::{put_byte, put_bytes, put_unsigned};
 
@@ -60,13 +61,14 @@ fn put_pointed(out: &mut [u8], at: usize, q: usize, n: u64) -> usize
     put_last(out, last, q, n)
 }
 
-pub(crate) fn put_fixed(out: &mut [u8], at: usize, q: usize, minus: bool, n: u64) -> usize
+// The same behind a minus, if it has one.
+pub(crate) fn put_fixed(out: &mut [u8], at: usize, q: usize, rounded: Rounded) -> usize
     requires { q ≤ 9 }
-    ensures { page out.new result ≡ put (page out.old at) (specs.fixed q minus n) }
+    ensures { page out.new result ≡ put (page out.old at) (specs.fixed q rounded.minus rounded.digits) }
 {
-    if minus {
+    if rounded.minus {
         let next = put_byte(out, at, 45);
-        return put_pointed(out, next, q, n);
+        return put_pointed(out, next, q, rounded.digits);
     }
-    put_pointed(out, at, q, n)
+    put_pointed(out, at, q, rounded.digits)
 }

@@ -1,13 +1,12 @@
 // A text, a charge, a flag or a row in so many columns of a line that is written. What doesn't fit puts blanks and is told.
-ghost use Rattle.std.specs.Prelude.{◌≡◌, false, [], ◌∷◌, ◌++◌, ◌≤◌, drop};
+ghost use Rattle.std.specs.Prelude.{◌≡◌, [], ◌∷◌, ◌++◌, ◌≤◌, drop};
 ghost use Rattle.cell.specs.Cell as specs;
-ghost use Rattle.cell.specs.Text.{blanks};
 ghost use Rattle.cell.specs.Words as words;
 ghost use Rattle.page.specs.Numerals.{signed_decimal};
 ghost use Rattle.page.specs.Page.{page, put};
 
 use crate::text::{put_blanks, put_right};
-use crate::{Put, put_text};
+use crate::{Put, put_none, put_text};
 use page::{put_byte, put_bytes, put_signed};
 
 // Whether every byte is from 32 to 126.
@@ -37,16 +36,6 @@ fn put_left(out: &mut [u8], at: usize, width: usize, bytes: &[u8]) -> usize
         return put_blanks(out, next, width - bytes.len());
     }
     next
-}
-
-// Blanks for what doesn't fit.
-fn put_none(out: &mut [u8], at: usize, width: usize) -> Put
-    ensures { specs.Puts (page out.old at) (blanks width) false out.new result }
-{
-    Put {
-        next: put_blanks(out, at, width),
-        fits: false,
-    }
 }
 
 // A text at its side.
@@ -129,8 +118,5 @@ pub fn put_row(out: &mut [u8], at: usize, width: usize, row: usize) -> Put
         let digit = [49 + row as u8];
         return put_text(out, at, width, &digit);
     }
-    Put {
-        next: put_blanks(out, at, width),
-        fits: false,
-    }
+    put_none(out, at, width)
 }

@@ -9,24 +9,22 @@ use native.Mathlib.Omega.{arith}
 use mathlib.Core.Bool.{true, false}
 use mathlib.Core.List.{[], ◌∷◌}
 use lib.IntN.{ℤ, pos, negsuc, nat_abs}
+use Rattle.std.specs.Prelude.{Some}
 use Rattle.page.specs.Numerals.{decimal, signed_decimal}
 use Rattle.page.proofs.Laws.Decimal.{decimal-length, decimal-says, between}
 use Rattle.number.specs.Whole.{value_of, unsigned_of, signed_of}
 use Rattle.real.specs.Real.{ten_thousandth}
 use Rattle.real.specs.Sign.{below}
 use Rattle.number.specs.Grammar.{Plus, Sign}
-use Rattle.number.specs.declared.whole.Unsigned.TheVariants.{U}
-use Rattle.number.specs.declared.whole.Signed.TheVariants.{I}
 use Rattle.number.proofs.Laws.Grammar.{unsigned-read, signed-read}
 use Rattle.real.proofs.Laws.Quotient.{integer-near}
 use Rattle.cell.specs.Text.{right}
-use Rattle.cell.specs.Places.{rounded_to}
-use Rattle.cell.specs.declared.places.Places.TheVariants.{Rounded}
+use Rattle.cell.specs.Places.{rounded, rounded_to}
 use Rattle.cell.proofs.Laws.Text.{right-trimmed, dark-trimmed, between_more, all_digits, same-said}
 use Rattle.cell.proofs.Laws.Places.{near-places}
 
 -- ---- whole numbers
-pub unsigned_back : (w n : ℕ) → n < 2 ^ 64 → unsigned_of (right w (decimal n)) ≡ U n
+pub unsigned_back : (w n : ℕ) → n < 2 ^ 64 → unsigned_of (right w (decimal n)) ≡ Some n
 unsigned_back w n small =
     let t = decimal n in
     let b = between n small in
@@ -44,7 +42,7 @@ unsigned_back w n small =
 said : (n : ℕ) → n < 2 ^ 64 → value_of (decimal n) ≡ n
 said n small = sym (same-said 0 (decimal n)) ∙ decimal-says n small
 
-pub signed_back : (w : ℕ) (z : ℤ) → nat_abs z < 2 ^ 63 → signed_of (right w (signed_decimal z)) ≡ I z
+pub signed_back : (w : ℕ) (z : ℤ) → nat_abs z < 2 ^ 63 → signed_of (right w (signed_decimal z)) ≡ Some z
 unfolding signed_decimal
 signed_back w (pos n) small =
     let t = decimal n in
@@ -80,7 +78,7 @@ signed_back w (negsuc n) small =
     })
 
 -- ---- ANISOU's six: an integer over 10000.0 is that integer in four places
-pub factor-back : (z : ℤ) → nat_abs z < 10 ^ 10 → rounded_to 4 (ten_thousandth z) ≡ Rounded (below z) (nat_abs z)
+pub factor-back : (z : ℤ) → nat_abs z < 10 ^ 10 → rounded_to 4 (ten_thousandth z) ≡ Some (rounded (below z) (nat_abs z))
 factor-back z few =
     let none : nat_abs z * 10 ^ (4 - 4) ≡ nat_abs z = mul-one (nat_abs z) in
     rw none at (near-places (below z) (nat_abs z) 4 4 (ten_thousandth z) (integer-near z few) (le_refl 4) (rw none few))

@@ -13,9 +13,9 @@ use lib.Ieee.Bits.{of_bits-to_bits}
 use lib.Ieee.Compare.{differs_from_itself, nan_differs}
 use lib.Ieee.Exact.{HasValue, odd_sign}
 use lib.Ieee.Nearest.{closest, closest_same, nearest-ge}
+use Rattle.std.specs.Prelude.{Some, None}
 use Rattle.real.specs.Near.{apart}
-use Rattle.cell.specs.Places.{within, rounded_to}
-use Rattle.cell.specs.declared.places.Places.TheVariants.{Rounded, NoFit}
+use Rattle.cell.specs.Places.{rounded, within, rounded_to}
 use Rattle.cell.proofs.Laws.Closest.{closest_is}
 use Rattle.cell.proofs.Laws.Places.{places-value, within-few}
 
@@ -52,7 +52,7 @@ zero-off : (n u : ℕ) → n * 2 < u → apart (0 * u) n * 2 < u
 zero-off n u h = omega arith
 
 -- ---- a double that is m 2 ^ y over 2 ^ 1074
-pub within-many : (s : Bool) (n : ℕ) → 10 ^ 10 ≤ n → within s n ≡ NoFit
+pub within-many : (s : Bool) (n : ℕ) → 10 ^ 10 ≤ n → within s n ≡ None
 unfolding within
 within-many s n h = rw (le-ltb n (10 ^ 10) h) refl
 
@@ -65,12 +65,12 @@ module _ (q : ℕ) (x : Float) (s : Bool) (m y : ℕ) (v : HasValue x s (m * 2 ^
   as_units : rounded_to q x ≡ within s (closest (m * 2 ^ y * 10 ^ q) (2 ^ 1074))
   as_units = places-value q x s (m * 2 ^ y) (2 ^ 1074) (pow_pos 1074) v
 
-  value-large : 2 ^ 52 ≤ m → 1058 ≤ y + q → rounded_to q x ≡ NoFit
+  value-large : 2 ^ 52 ≤ m → 1058 ≤ y + q → rounded_to q x ≡ None
   value-large M h =
       as_units ∙ within-many s (closest (m * 2 ^ y * 10 ^ q) (2 ^ 1074))
       (many (m * 2 ^ y * 10 ^ q) (2 ^ 1074) (pow_pos 1074) (large-scale m y q 36 52 1074 M (omega arith)))
 
-  value-small : m < 2 ^ 53 → q ≤ 9 → y + q ≤ 999 → rounded_to q x ≡ Rounded s 0
+  value-small : m < 2 ^ 53 → q ≤ 9 → y + q ≤ 999 → rounded_to q x ≡ Some (rounded s 0)
   value-small M h k =
       let n = m * 2 ^ y * 10 ^ q in
       let few = small-scale m y q 74 1074 (product_small m q M h) (omega arith) in
@@ -82,17 +82,17 @@ module _ (q : ℕ) (x : Float) (s : Bool) (m y : ℕ) (v : HasValue x s (m * 2 ^
       ∙ ap (within s) (closest_same (m * 2 ^ y * 10 ^ q) (2 ^ 1074) (m * 5 ^ q) (2 ^ j) (pow_pos 1074) (pow_pos j) (same_scale m y q j 1074 e))
 
 -- ---- by the fields of its bits
-no_number : (q : ℕ) (s : Bool) (b : Bool) → rounded_to q (cond b (inf s) nan) ≡ NoFit
+no_number : (q : ℕ) (s : Bool) (b : Bool) → rounded_to q (cond b (inf s) nan) ≡ None
 unfolding rounded_to
 no_number q s true = refl
 no_number q s false = refl
 
-fields-large : (q : ℕ) (s : Bool) (x t : ℕ) → q ≤ 9 → 1075 - q ≤ x + 16 → rounded_to q (of_fields binary64 s x t) ≡ NoFit
+fields-large : (q : ℕ) (s : Bool) (x t : ℕ) → q ≤ 9 → 1075 - q ≤ x + 16 → rounded_to q (of_fields binary64 s x t) ≡ None
 unfolding of_fields
 fields-large q s zero t Q h = absurd (omega arith)
 fields-large q s (suc y) t Q h = go (eqb (suc y) 2047)
   where
-    go : (b : Bool) → rounded_to q (cond b (cond (eqb t 0) (inf s) nan) (odd 53 s (2 ^ 52 + t) y 1074)) ≡ NoFit
+    go : (b : Bool) → rounded_to q (cond b (cond (eqb t 0) (inf s) nan) (odd 53 s (2 ^ 52 + t) y 1074)) ≡ None
     go true = no_number q s (eqb t 0)
     go false = value-large q (odd 53 s (2 ^ 52 + t) y 1074) s (2 ^ 52 + t) y (odd_sign 53 s (2 ^ 52 + t) y 1074) (omega arith) (omega arith)
 
@@ -100,7 +100,7 @@ fields_value : (s : Bool) (y t : ℕ) → suc y < 2047 → HasValue (of_fields b
 unfolding of_fields
 fields_value s y t h = rw (ne_eqb (suc y) 2047 (omega arith)) (odd_sign 53 s (2 ^ 52 + t) y 1074)
 
-fields-small : (q : ℕ) (s : Bool) (x t : ℕ) → q ≤ 9 → t < 2 ^ 52 → x + 80 ≤ 1075 - q → rounded_to q (of_fields binary64 s x t) ≡ Rounded s 0
+fields-small : (q : ℕ) (s : Bool) (x t : ℕ) → q ≤ 9 → t < 2 ^ 52 → x + 80 ≤ 1075 - q → rounded_to q (of_fields binary64 s x t) ≡ Some (rounded s 0)
 unfolding of_fields
 fields-small q s zero t Q T h = value-small q (odd 53 s t 0 1074) s t 0 (odd_sign 53 s t 0 1074) (omega arith) Q (omega arith)
 fields-small q s (suc y) t Q T h =
@@ -119,10 +119,10 @@ module _ (q : ℕ) (x : Float) (fit : T (fits binary64 x)) (Q : q ≤ 9) where
   unfolding of_bits
   bits_are = ap (rounded_to q) (sym (of_bits-to_bits binary64 x fit))
 
-  pub bits_large : 1075 - q ≤ to_bits binary64 x % 2 ^ 63 / 2 ^ 52 + 16 → NoFit ≡ rounded_to q x
+  pub bits_large : 1075 - q ≤ to_bits binary64 x % 2 ^ 63 / 2 ^ 52 + 16 → None ≡ rounded_to q x
   bits_large h = sym (bits_are ∙ fields-large q _ _ _ Q h)
 
-  pub bits_small : to_bits binary64 x % 2 ^ 63 / 2 ^ 52 + 80 ≤ 1075 - q → Rounded (leb (2 ^ 63) (to_bits binary64 x)) 0 ≡ rounded_to q x
+  pub bits_small : to_bits binary64 x % 2 ^ 63 / 2 ^ 52 + 80 ≤ 1075 - q → Some (rounded (leb (2 ^ 63) (to_bits binary64 x)) 0) ≡ rounded_to q x
   bits_small h = sym (bits_are ∙ fields-small q _ _ _ Q (mod-lt (to_bits binary64 x) (pow_pos 52)) h)
 
   pub bits_middle : to_bits binary64 x % 2 ^ 63 / 2 ^ 52 + 16 < 1075 - q → 1075 - q < to_bits binary64 x % 2 ^ 63 / 2 ^ 52 + 80
@@ -131,7 +131,7 @@ module _ (q : ℕ) (x : Float) (fit : T (fits binary64 x)) (Q : q ≤ 9) where
   bits_middle h k = sym (bits_are ∙ fields_middle q _ _ _ Q h k)
 
 -- ---- a NaN
-pub nan_none : (q : ℕ) (x : Float) → ne x x ≡ true → NoFit ≡ rounded_to q x
+pub nan_none : (q : ℕ) (x : Float) → ne x x ≡ true → None ≡ rounded_to q x
 unfolding rounded_to
 nan_none q x h = rw (differs_from_itself x (rw h tt)) refl
 

@@ -20,25 +20,29 @@ use lib.Ieee.Exact.{HasValue}
 use lib.Ieee.Fits.{down_pos}
 use lib.Ieee.Nearest.{closest, closest_same}
 use lib.Ieee.Scale.{round_same}
+use Rattle.std.specs.Prelude.{Some, None}
 use Rattle.real.specs.Double.{double_of, sign_put}
 use Rattle.real.specs.Near.{Near, apart}
 use Rattle.real.proofs.Laws.Apart.{apart_times}
 use Rattle.real.proofs.Laws.Quotient.{double-near}
 use Rattle.real.proofs.Laws.Value.{integer-value, quotient_round}
-use Rattle.cell.specs.Places.{within, rounded_to, places_of}
-use Rattle.cell.specs.declared.places.Places.TheVariants.{Rounded, NoFit}
+use Rattle.cell.specs.Places.{rounded, within, rounded_to, places_of}
+use Rattle.cell.specs.declared.places.Rounded.{Rounded}
 use Rattle.cell.proofs.Laws.Closest.{closest_is}
 
-pub within-few : (s : Bool) (n : ℕ) → n < 10 ^ 10 → within s n ≡ Rounded s n
+pub within-few : (s : Bool) (n : ℕ) → n < 10 ^ 10 → within s n ≡ Some (rounded s n)
 unfolding within
 within-few s n h = rw (lt-ltb n (10 ^ 10) h) refl
 
-within-tells : (s t : Bool) (n k : ℕ) → within s n ≡ Rounded t k → (s ≡ t) × (n ≡ k) × (k < 10 ^ 10)
+within-tells : (s t : Bool) (n k : ℕ) → within s n ≡ Some (rounded t k) → (s ≡ t) × (n ≡ k) × (k < 10 ^ 10)
 unfolding within
 within-tells s t n k e = go (ltb n (10 ^ 10)) refl e
   where
-    go : (b : Bool) → ltb n (10 ^ 10) ≡ b → cond b (Rounded s n) NoFit ≡ Rounded t k → (s ≡ t) × (n ≡ k) × (k < 10 ^ 10)
-    go true l e = let same : n ≡ k = cc in (cc, same, rw same at (ltb-true n (10 ^ 10) l))
+    go : (b : Bool) → ltb n (10 ^ 10) ≡ b → cond b (Some (rounded s n)) None ≡ Some (rounded t k) → (s ≡ t) × (n ≡ k) × (k < 10 ^ 10)
+    go true l e =
+        let both : rounded s n ≡ rounded t k = cc in
+        let same = ap (λ (r : Rounded). r.digits) both in
+        (ap (λ (r : Rounded). r.minus) both, same, rw same at (ltb-true n (10 ^ 10) l))
     go false l e = absurd (let z : ◌≡◌ {A = ℕ} 0 1 = cc in omega arith)
 
 pub places-value : (q : ℕ) (x : Float) (s : Bool) (a c : ℕ) → 0 < c → HasValue x s a c → rounded_to q x ≡ within s (closest (a * 10 ^ q) c)
@@ -59,7 +63,7 @@ split_power : (p q : ℕ) → p ≤ q → 10 ^ p * 10 ^ (q - p) ≡ 10 ^ q
 split_power p q h = rw (← pow-add 10 p (q - p), add-sub_of_le h) refl
 
 pub near-places : (s : Bool) (m p q : ℕ) (x : Float) → Near s m p x → p ≤ q → m * 10 ^ (q - p) < 10 ^ 10
-    → rounded_to q x ≡ Rounded s (m * 10 ^ (q - p))
+    → rounded_to q x ≡ Some (rounded s (m * 10 ^ (q - p)))
 near-places s m p q x near h few =
     let c = 10 ^ (q - p) in
     let t = 2 ^ 82 in
@@ -71,7 +75,7 @@ near-places s m p q x near h few =
 
 -- ---- what was read of M over 10 ^ p
 module _ (s : Bool) (m p q : ℕ) (few : m < 10 ^ 10) (short : p ≤ q) (long : q ≤ 9) where
-  pub written_back : m * 10 ^ (q - p) < 10 ^ 10 → rounded_to q (double_of s m p) ≡ Rounded s (m * 10 ^ (q - p))
+  pub written_back : m * 10 ^ (q - p) < 10 ^ 10 → rounded_to q (double_of s m p) ≡ Some (rounded s (m * 10 ^ (q - p)))
   written_back fit = near-places s m p q (double_of s m p) (double-near s m p few (le_trans short long)) short fit
 
 -- the quotient is one rounding
@@ -94,27 +98,27 @@ written_same s m p q few short long fit =
     let two = quotient_is m p few (le_trans short long) in
     ap (sign_put s) (one ∙ round_same binary64 false n (10 ^ q) m (10 ^ p) (ten_pos q) (ten_pos p) same ∙ sym two)
 
-pub places-own : (s : Bool) (m p : ℕ) → m < 10 ^ 10 → p ≤ 9 → rounded_to p (double_of s m p) ≡ Rounded s m
+pub places-own : (s : Bool) (m p : ℕ) → m < 10 ^ 10 → p ≤ 9 → rounded_to p (double_of s m p) ≡ Some (rounded s m)
 places-own s m p few long =
     let none : m * 10 ^ (p - p) ≡ m = rw (sub_self p) (mul-one m) in
     rw none at (written_back s m p p few (le_refl p) long (rw none few))
 
 -- ---- written, read and written again
-pub places-few : (q : ℕ) (x : Float) (s : Bool) (n : ℕ) → rounded_to q x ≡ Rounded s n → n < 10 ^ 10
+pub places-few : (q : ℕ) (x : Float) (s : Bool) (n : ℕ) → rounded_to q x ≡ Some (rounded s n) → n < 10 ^ 10
 unfolding rounded_to
 places-few q nan s n e = absurd (let z : ◌≡◌ {A = ℕ} 0 1 = cc in omega arith)
 places-few q (inf t) s n e = absurd (let z : ◌≡◌ {A = ℕ} 0 1 = cc in omega arith)
 places-few q (fin t m e') s n e = (within-tells t s (closest (m * up e' * 10 ^ q) (down e')) n e).2
 
-pub places-again : (q : ℕ) (x : Float) (s : Bool) (n : ℕ) → q ≤ 9 → rounded_to q x ≡ Rounded s n → rounded_to q (double_of s n q) ≡ Rounded s n
+pub places-again : (q : ℕ) (x : Float) (s : Bool) (n : ℕ) → q ≤ 9 → rounded_to q x ≡ Some (rounded s n) → rounded_to q (double_of s n q) ≡ Some (rounded s n)
 places-again q x s n long e = places-own s n q (places-few q x s n e) long
 
 -- ---- of any number of places
-pub placed : (q : ℕ) (x : Float) (s : Bool) (n : ℕ) → places_of q x ≡ Rounded s n → (q ≤ 9) × (rounded_to q x ≡ Rounded s n)
+pub placed : (q : ℕ) (x : Float) (s : Bool) (n : ℕ) → places_of q x ≡ Some (rounded s n) → (q ≤ 9) × (rounded_to q x ≡ Some (rounded s n))
 unfolding places_of
 placed q x s n e = go (leb q 9) refl e
   where
-    go : (b : Bool) → leb q 9 ≡ b → cond b (rounded_to q x) NoFit ≡ Rounded s n → (q ≤ 9) × (rounded_to q x ≡ Rounded s n)
+    go : (b : Bool) → leb q 9 ≡ b → cond b (rounded_to q x) None ≡ Some (rounded s n) → (q ≤ 9) × (rounded_to q x ≡ Some (rounded s n))
     go true l e = (leb-true q 9 l, e)
     go false l e = absurd (let z : ◌≡◌ {A = ℕ} 0 1 = cc in omega arith)
 

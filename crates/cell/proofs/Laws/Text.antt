@@ -14,24 +14,22 @@ use lib.ListN.{length, length-append}
 use lib.Seq.{take_all}
 use lib.Arith.{mod-mul}
 use lib.Ieee.{Float}
+use Rattle.std.specs.Prelude.{Some}
 use Rattle.page.specs.Numerals.{decimal}
 use Rattle.page.specs.Said.{decimal_said}
 use Rattle.page.proofs.Laws.Lists.{Between}
 use Rattle.page.proofs.Laws.Decimal.{decimal-length, decimal-says, between}
 use Rattle.number.specs.Trim.{white, leading, kept, end_trimmed, trimmed}
 use Rattle.number.specs.Whole.{digits, joined, value_from, value_of}
-use Rattle.number.specs.Decimal.{decimal_of}
+use Rattle.number.specs.Decimal.{plain, decimal_of}
 use Rattle.real.specs.Double.{double_of}
-use Rattle.real.specs.Real.{real_of}
+use Rattle.real.specs.Real.{real, real_of}
 use Rattle.number.specs.Grammar.{Sign, Fraction}
-use Rattle.number.specs.declared.decimal.Decimal.TheVariants.{Plain}
-use Rattle.real.specs.declared.Real.TheVariants.{R}
 use Rattle.number.proofs.Laws.Digits.{digits_append, value-append, digit_yes}
 use Rattle.number.proofs.Laws.Grammar.{decimal-read}
 use Rattle.real.proofs.Laws.Real.{real-is}
 use Rattle.cell.specs.Text.{last_digits, pointed, behind_minus, fixed, blanks, right}
-use Rattle.cell.specs.Places.{rounded_to}
-use Rattle.cell.specs.declared.places.Places.TheVariants.{Rounded}
+use Rattle.cell.specs.Places.{rounded, rounded_to}
 use Rattle.cell.proofs.Laws.Places.{places-few, places-again, written_back, written_same}
 
 -- ---- trim
@@ -165,7 +163,7 @@ module _ (q : ℕ) (s : Bool) (n : ℕ) (few : n < 10 ^ 10) where
       go false = ([], Sign.unsigned, refl)
       go true = (45 ∷ [], Sign.minus, refl)
 
-  pub fixed-read : (w : ℕ) → length (fixed q s n) ≤ w → w ≤ 10 → decimal_of (right w (fixed q s n)) ≡ Plain s n q
+  pub fixed-read : (w : ℕ) → length (fixed q s n) ≤ w → w ≤ 10 → decimal_of (right w (fixed q s n)) ≡ Some (plain s n q)
   fixed-read w h k =
       let t = fixed q s n in
       let front = decimal (n / 10 ^ q) in
@@ -193,16 +191,16 @@ module _ (q : ℕ) (s : Bool) (n : ℕ) (few : n < 10 ^ 10) where
 -- of a double that was read of M over 10 ^ p, with no more places than are written, the field is read as the same double
 pub real-back : (s : Bool) (m p q w : ℕ) → m < 10 ^ 10 → p ≤ q → q ≤ 9 → m * 10 ^ (q - p) < 10 ^ 10
     → length (fixed q s (m * 10 ^ (q - p))) ≤ w → w ≤ 10
-    → (rounded_to q (double_of s m p) ≡ Rounded s (m * 10 ^ (q - p)))
-    × (real_of (right w (fixed q s (m * 10 ^ (q - p)))) ≡ R (double_of s m p) q)
+    → (rounded_to q (double_of s m p) ≡ Some (rounded s (m * 10 ^ (q - p))))
+    × (real_of (right w (fixed q s (m * 10 ^ (q - p)))) ≡ Some (real (double_of s m p) q))
 real-back s m p q w few short long fit h k =
     let n = m * 10 ^ (q - p) in (
       written_back s m p q few short long fit,
-      real-is (right w (fixed q s n)) (fixed-read q s n fit w h k) ∙ ap (λ (x : Float). R x q) (written_same s m p q few short long fit),
+      real-is (right w (fixed q s n)) (fixed-read q s n fit w h k) ∙ ap (λ (x : Float). Some (real x q)) (written_same s m p q few short long fit),
     )
 
 -- of any double that fits, the field is read as a double that is written as the same field
-pub real-again : (q : ℕ) (x : Float) (s : Bool) (n w : ℕ) → q ≤ 9 → rounded_to q x ≡ Rounded s n → length (fixed q s n) ≤ w → w ≤ 10
-    → (real_of (right w (fixed q s n)) ≡ R (double_of s n q) q) × (rounded_to q (double_of s n q) ≡ Rounded s n)
+pub real-again : (q : ℕ) (x : Float) (s : Bool) (n w : ℕ) → q ≤ 9 → rounded_to q x ≡ Some (rounded s n) → length (fixed q s n) ≤ w → w ≤ 10
+    → (real_of (right w (fixed q s n)) ≡ Some (real (double_of s n q) q)) × (rounded_to q (double_of s n q) ≡ Some (rounded s n))
 real-again q x s n w long e h k =
     (real-is (right w (fixed q s n)) (fixed-read q s n (places-few q x s n e) w h k), places-again q x s n long e)

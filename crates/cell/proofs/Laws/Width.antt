@@ -11,14 +11,14 @@ use mathlib.Core.List.{List, [], ◌∷◌}
 use borrow.Author.Tests.{leb-true, eqb-true}
 use lib.ListN.{length, length-append}
 use lib.Dec.{eqb, ltb}
+use Rattle.std.specs.Prelude.{Option, Some, None}
 use Rattle.number.specs.Whole.{with_sign}
 use Rattle.number.proofs.Laws.Choice.{and_left}
 use Rattle.page.specs.Numerals.{signed_decimal}
 use Rattle.cell.specs.Cell.{fitting, texted, real_bytes, factor_bytes}
 use Rattle.cell.specs.Text.{blanks, right, fixed}
 use Rattle.cell.specs.Words.{printable, left, words_fit, words_bytes, lent_fits, lent_bytes, row_bytes}
-use Rattle.cell.specs.declared.places.Places.{Places}
-use Rattle.cell.specs.declared.places.Places.TheVariants.{Rounded, NoFit}
+use Rattle.cell.specs.declared.places.Rounded.{Rounded}
 
 pub blanks-width : (w : ℕ) → length (blanks w) ≡ w
 unfolding blanks
@@ -70,13 +70,13 @@ words-width isLeft w t =
     chosen-width w (cond isLeft (left w t) (right w t)) (words_fit w t) (λ e. side_width w t isLeft (words-fit w t e))
 
 -- ---- numbers
-pub real-width : (w q : ℕ) (p : Places) → length (real_bytes w q p) ≡ w
-real-width w q (Rounded s n) = texted-width w (fixed q s n)
-real-width w q NoFit = blanks-width w
+pub real-width : (w q : ℕ) (p : Option Rounded) → length (real_bytes w q p) ≡ w
+real-width w q (Some r) = texted-width w (fixed q r.minus r.digits)
+real-width w q None = blanks-width w
 
-pub factor-width : (w : ℕ) (p : Places) → length (factor_bytes w p) ≡ w
-factor-width w (Rounded s n) = texted-width w (signed_decimal (with_sign s n))
-factor-width w NoFit = blanks-width w
+pub factor-width : (w : ℕ) (p : Option Rounded) → length (factor_bytes w p) ≡ w
+factor-width w (Some r) = texted-width w (signed_decimal (with_sign r.minus r.digits))
+factor-width w None = blanks-width w
 
 pub row-width : (w row : ℕ) → length (row_bytes w row) ≡ w
 unfolding row_bytes

@@ -4,10 +4,10 @@ use Rattle.page.proofs.Laws.Page.{put_then}
 use Rattle.cell.specs.Text.{fixed}
 use Rattle.cell.proofs.text.put_fixed.Goals as goal
 
-pub returns-then-minus : goal.returns-then-minus
+pub returns-then-rounded : goal.returns-then-rounded
 unfolding fixed
-returns-then-minus c = rw c.if-minus.true (put_then _ _ _ _ _ c.put_byte-next.ensures c.put_pointed.ensures)
+returns-then-rounded c = rw c.if-rounded.true (put_then _ _ _ _ _ c.put_byte-next.ensures c.put_pointed.ensures)
 
 pub returns : goal.returns
 unfolding fixed
-returns c = rw c.if-minus.false c.put_pointed-2.ensures
+returns c = rw c.if-rounded.false c.put_pointed-2.ensures
