@@ -1,6 +1,6 @@
 -- "SEQRES: U 7..10, C 11, U 13..17, X triples. Triples start at 19, 23, .. 67, while start+3 is at most min(len, 71), and stop at the first
 -- three blanks; they aren't trimmed."
-use Rattle.std.specs.Prelude.{ℕ, ◌+◌, ◌*◌, suc, Bool, cond, not, ◌&&◌, List, [], ◌∷◌, length, get_or, leb, ltb, eqb}
+use Rattle.std.specs.Prelude.{ℕ, ◌+◌, ◌*◌, suc, Bool, cond, not, ◌&&◌, Option, Some, None, List, [], ◌∷◌, length, get_or, leb, ltb, eqb}
 use Rattle.field.specs.Number.{unsigned_at}
 use Rattle.field.specs.Table.{Entry, table_noted}
 use Rattle.field.specs.Table.Entry.{u, c, triples}
@@ -61,8 +61,8 @@ abbrev pub triple_text : ℕ → Text
 triple_text index = record { place = triple_at index; length = 3 }
 
 -- where the triple of an index lies, of so many; at most thirteen start by 67
-unfoldable pub triple_of : ℕ → ℕ → Text
-triple_of count index = cond (ltb index count && ltb index 13) (triple_text index) (record { place = 0; length = 0 })
+unfoldable pub triple_of : ℕ → ℕ → Option Text
+triple_of count index = cond (ltb index count && ltb index 13) (Some (triple_text index)) None
 
 -- the row of the one that has an index, of so many; and those of k, from an index on
 unfoldable pub triple_row : ℕ → ℕ → Row

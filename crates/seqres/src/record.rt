@@ -40,17 +40,14 @@ impl Seqres {
         }
     }
 
-    // Where a residue name lies, the first having index 0; empty where there is none.
-    pub fn triple(self, index: usize) -> Text
+    // Where a residue name lies, the first having index 0.
+    #[tactic(auto, unfolding(crate::specs::Seqres::triple_of))]
+    pub fn triple(self, index: usize) -> Option<Text>
         ensures { result ≡ triple_of self.triples index }
     {
-        let triples = self.triples;
-        if triples <= index {
-            return Text::new(0, 0);
+        if index < self.triples && index < Seqres::MOST {
+            return Some(Text::new(Seqres::FIRST + Seqres::STEP * index, Seqres::WIDTH));
         }
-        if Seqres::MOST <= index {
-            return Text::new(0, 0);
-        }
-        Text::new(Seqres::FIRST + Seqres::STEP * index, Seqres::WIDTH)
+        None
     }
 }

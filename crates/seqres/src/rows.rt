@@ -7,25 +7,25 @@ use crate::record::Seqres;
 use row::{Row, Rows, Value};
 
 // The row of a residue name, the first having index 0.
+#[tactic(auto, unfolding(crate::specs::Seqres::triple_row, crate::specs::Seqres::triple_of))]
 fn triple_row(seqres: Seqres, index: usize) -> Row
     requires { index < 13 }
     ensures { result ≡ triple_row seqres.triples index }
 {
     let column = (Seqres::FIRST + Seqres::STEP * index) as u16;
-    if seqres.triples <= index {
-        return Row(column, Value::Nothing);
-    }
     let text = seqres.triple(index);
-    Row(column, Value::Words(text))
+    Row(
+        column,
+        text.map_or(Value::Nothing, |text| Value::Words(text)),
+    )
 }
 
 pub fn seqres_rows(seqres: Seqres) -> Rows
     ensures { result ≡ rows_of (seqres_fields seqres) }
 {
-    let chain = seqres.chain;
     Rows::of([
         Row(Seqres::SERIAL.start, Value::Unsigned(seqres.serial)),
-        Row(Seqres::CHAIN, Value::One(chain)),
+        Row(Seqres::CHAIN, Value::One(seqres.chain)),
         Row(Seqres::RESIDUES.start, Value::Unsigned(seqres.residues)),
         triple_row(seqres, 0),
         triple_row(seqres, 1),

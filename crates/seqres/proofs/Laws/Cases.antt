@@ -4,6 +4,7 @@
 --     second_at        the second stands at 23
 -- Assumes nothing.
 use mathlib.Core.Path.{◌≡◌, refl}
+use Rattle.std.specs.Prelude.{Some}
 use Rattle.line.specs.Bytes.{bytes}
 use Rattle.seqres.specs.Seqres.{blank_triple, triples_from, triples_of, triple_of}
 
@@ -15,6 +16,6 @@ pub blank_second : triples_of (bytes "SEQRES   1 A   21  GLY     VAL GLU GLN CYS
 unfolding blank_triple triples_from
 blank_second = refl
 
-pub second_at : triple_of 13 1 ≡ record { place = 23; length = 3 }
+pub second_at : triple_of 13 1 ≡ Some (record { place = 23; length = 3 })
 unfolding triple_of
 second_at = refl
