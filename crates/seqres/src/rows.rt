@@ -5,6 +5,7 @@ ghost use Rattle.seqres.specs.Seqres.{triple_row, seqres_fields};
 
 use crate::record::Seqres;
 use row::{Row, Rows, Value};
+use std::array::from_fn;
 
 // The row of a residue name, the first having index 0.
 #[tactic(auto, unfolding(crate::specs::Seqres::triple_row, crate::specs::Seqres::triple_of))]
@@ -23,22 +24,17 @@ fn triple_row(seqres: Seqres, index: usize) -> Row
 pub fn seqres_rows(seqres: Seqres) -> Rows
     ensures { result ≡ rows_of (seqres_fields seqres) }
 {
-    Rows::of([
-        Row(Seqres::SERIAL.start, Value::Unsigned(seqres.serial)),
-        Row(Seqres::CHAIN, Value::One(seqres.chain)),
-        Row(Seqres::RESIDUES.start, Value::Unsigned(seqres.residues)),
-        triple_row(seqres, 0),
-        triple_row(seqres, 1),
-        triple_row(seqres, 2),
-        triple_row(seqres, 3),
-        triple_row(seqres, 4),
-        triple_row(seqres, 5),
-        triple_row(seqres, 6),
-        triple_row(seqres, 7),
-        triple_row(seqres, 8),
-        triple_row(seqres, 9),
-        triple_row(seqres, 10),
-        triple_row(seqres, 11),
-        triple_row(seqres, 12),
-    ])
+    let list = from_fn(
+        |i| -> Row
+            requires { i < 16 }
+        {
+            match i {
+                0 => Row(Seqres::SERIAL.start, Value::Unsigned(seqres.serial)),
+                1 => Row(Seqres::CHAIN, Value::One(seqres.chain)),
+                2 => Row(Seqres::RESIDUES.start, Value::Unsigned(seqres.residues)),
+                _ => triple_row(seqres, i - 3),
+            }
+        },
+    );
+    Rows { list }
 }

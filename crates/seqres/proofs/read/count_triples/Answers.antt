@@ -12,17 +12,17 @@ returns-then-line-at c =
     let l = c.args.line.now in
     let h = c.loop-n-test.true in
     elim c.then-line-at.branch [
-      then-line-at-via-then-line-at w ↦ let e = triples-short l n (19 + 4 * n) h w.if-line-at.true in omega arith
+      | then-line-at-via-then-line-at w ↦ let e = triples-short l n (19 + 4 * n) h w.if-line-at.true in omega arith
       | then-line-at-via-else-line-at+then-is_blank_triple w ↦
-        let e = triples-blank l n (19 + 4 * n) h w.if-line-at.false (sym w.is_blank_triple.ensures ∙ w.if-is_blank_triple.true) in omega arith
+          let e = triples-blank l n (19 + 4 * n) h w.if-line-at.false (sym w.is_blank_triple.ensures ∙ w.if-is_blank_triple.true) in omega arith
     ]
 
 pub loop-n-preserved : goal.loop-n-preserved
 loop-n-preserved c =
     let n = c.loop-n.n in
     let e =
-        triples-on c.args.line.now n (19 + 4 * n) c.loop-n-test.true c.if-line-at.false
-        (sym c.is_blank_triple.ensures ∙ c.if-is_blank_triple.false) in
+    triples-on c.args.line.now n (19 + 4 * n) c.loop-n-test.true c.if-line-at.false
+    (sym c.is_blank_triple.ensures ∙ c.if-is_blank_triple.false) in
     let next : 19 + 4 * n + 4 ≡ 19 + 4 * (n + 1) = omega arith in
     let on = rw next at e in
     omega arith
