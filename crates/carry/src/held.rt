@@ -2,7 +2,8 @@
 ghost use Rattle.std.specs.Prelude.{◌≡◌};
 ghost use Rattle.carry.specs.Held as specs;
 
-// How many bytes of a line came, whether the last one is a CR, and the line's number.
+// How many bytes of a line came, whether the last one is a CR, and the line's number. The count is no length of the kept bytes, since it also counts
+// those that had no room.
 #[derive(Clone, Copy)]
 pub struct Held {
     pub total: usize,

@@ -4,23 +4,17 @@ ghost use Rattle.carry.specs.Held as specs;
 
 use crate::held::Held;
 
-// How many bytes of a line are kept, and where their count stops: no input has so many.
+// How many bytes of a line are kept.
 pub const MOST_KEPT: usize = 1024;
 
-const MOST_COUNT: usize = 18446744073709551615;
-
-// Keeps a byte where there is room for it, and counts it.
+// Keeps a byte where there is room for it, and counts it. The count stops at the largest number: no input has so many bytes.
 fn keep_byte(kept: &mut [u8; 1024], total: usize, b: u8) -> usize
     ensures { (result ≡ min (total + 1) specs.most_count) × (kept.new ≡ specs.stored kept.old total b) }
 {
     if total < MOST_KEPT {
         kept[total] = b;
-        return total + 1;
     }
-    if total < MOST_COUNT {
-        return total + 1;
-    }
-    MOST_COUNT
+    total.saturating_add(1)
 }
 
 // What is held at an offset of a part.
@@ -36,8 +30,7 @@ pub fn absorb(held: Held, kept: &mut [u8; 1024], part: &[u8], at: usize) -> Abso
 {
     let mut total = held.total;
     let mut cr = held.cr;
-    let mut i = at;
-    while i < part.len() {
+    for i in at..part.len() {
         let b = part[i];
         if b == 10 {
             return Absorbed {
@@ -51,7 +44,6 @@ pub fn absorb(held: Held, kept: &mut [u8; 1024], part: &[u8], at: usize) -> Abso
         }
         total = keep_byte(kept, total, b);
         cr = b == 13;
-        i += 1;
     }
     Absorbed {
         held: Held {
@@ -59,6 +51,6 @@ pub fn absorb(held: Held, kept: &mut [u8; 1024], part: &[u8], at: usize) -> Abso
             cr,
             number: held.number,
         },
-        at: i,
+        at: at.max(part.len()),
     }
 }

@@ -12,12 +12,10 @@ pub mod keep;
 pub fn behind_last(part: &[u8], at: usize) -> usize
     ensures { result ≡ at + specs.whole_length (drop at part.now) }
 {
-    let mut i = part.len();
-    while at < i {
-        if part[i - 1] == 10 {
-            return i;
+    for i in (at..part.len()).rev() {
+        if part[i] == 10 {
+            return i + 1;
         }
-        i -= 1;
     }
     at
 }

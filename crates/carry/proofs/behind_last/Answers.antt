@@ -8,7 +8,9 @@ pub loop-i-init : goal.loop-i-init
 loop-i-init c = (whole-end c.args.part.now, omega arith)
 
 pub returns-then-part-i-eq10 : goal.returns-then-part-i-eq10
-returns-then-part-i-eq10 c = whole_here _ _ _ c.loop-i.invariant.0 c.loop-i-test.true c.loop-i.invariant.1 c.if-part-i-eq10.true
+returns-then-part-i-eq10 c =
+    let last = whole_here c.args.part.now c.args.at c.loop-i.i c.loop-i.invariant.0 c.loop-i-test.true c.loop-i.invariant.1 c.if-part-i-eq10.true in
+    omega arith
 
 pub loop-i-preserved : goal.loop-i-preserved
 loop-i-preserved c =

@@ -8,6 +8,3 @@ use Rattle.carry.proofs.behind_last.Given as goal
 
 abbrev pub invariant-loop-i : goal.invariant-loop-i
 invariant-loop-i l = (whole_length (drop l.i l.part) ≡ 0) × (l.i ≤ length l.part)
-
-abbrev pub decreases-loop-i : goal.decreases-loop-i
-decreases-loop-i l = l.i

@@ -1,9 +1,9 @@
 -- `carry::keep::absorb` meets its contract: at each turn, what the bytes that are left would leave is what all of them leave (Laws.Keep).
 -- Assumes nothing.
-use mathlib.Core.Path.{refl}
+use mathlib.Core.Path.{refl, ◌∙◌}
 use native.Mathlib.Omega.{arith}
-use Rattle.carry.proofs.Laws.Keep.{keep-made, absorb_here, absorb_next, absorb_none}
-use Rattle.walker.proofs.Laws.Pieces.{lf_here, lf-other, lf-none}
+use Rattle.carry.proofs.Laws.Keep.{keep-made, absorb_here, absorb_next, absorb_none, ended-at}
+use Rattle.walker.proofs.Laws.Pieces.{lf_here, lf-other}
 use Rattle.carry.proofs.keep.absorb.Goals as goal
 
 pub loop-i-init : goal.loop-i-init
@@ -37,5 +37,5 @@ returns c =
     let l = c.loop-i-test.false in
     record {
       state = absorb_none f i _ _ c.loop-i.invariant.0 l;
-      offset = omega (arith, lf-none f i l, c.loop-i.invariant.1);
+      offset = c.max.ensures ∙ ended-at f c.args.at i l c.loop-i.auto.i-end c.loop-i.invariant.1;
     }
