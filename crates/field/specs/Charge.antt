@@ -1,16 +1,14 @@
 -- "Charge: 0 with no fault under 80 bytes or for two blanks; else a digit, then `+` or `-`. Faults: 3 charge not a digit (78, 1); 4 charge
 -- unsigned (79, 1)."
-use Rattle.std.specs.Prelude.{ℕ, ◌-◌, ◌+◌, Bool, cond, not, ◌&&◌, ◌||◌, List, [], ◌∷◌, length, get_or, eqb, ℤ, pos}
+use Rattle.std.specs.Prelude.{ℕ, ◌-◌, ◌+◌, Bool, cond, not, ◌&&◌, ◌||◌, List, [], ◌∷◌, length, get_or, eqb, ℤ, pos, Option, Some, None}
 use Rattle.number.specs.Whole.{digit, with_sign}
 use Rattle.line.specs.Columns.{part_of}
-use Rattle.line.specs.Faults.{all_noted}
 use Rattle.line.specs.declared.columns.Columns.{Columns}
 use Rattle.line.specs.declared.fault.FaultKind.TheVariants.{NoDigit, NoSign}
 use Rattle.line.specs.declared.fault.Fault.{Fault}
 use Rattle.line.specs.declared.fault.Faults.{Faults}
-use Rattle.field.specs.Number.{is_fine}
-use Rattle.field.specs.declared.number_field.FineSigned.{FineSigned}
-use Rattle.field.specs.declared.number_field.GotSigned.{GotSigned}
+use Rattle.line.specs.declared.fault.Got.{Got}
+use Rattle.field.specs.Found.{fine, got}
 
 unfoldable pub both_blank : ℕ → ℕ → Bool
 both_blank a b = eqb a 32 && eqb b 32
@@ -42,13 +40,13 @@ charge_at l at = cond (charged (part_of l at)) (charge_of (get_or (part_of l at)
 unfoldable pub charge_faults : List ℕ → Columns → List Fault
 charge_faults l at = cond (charged (part_of l at)) (charge_faults_of (get_or (part_of l at) 0 0) (get_or (part_of l at) 1 0) at.start) []
 
--- ---- the charge, and whether it is fine
-abbrev pub fine_charge : List ℕ → Columns → FineSigned
-fine_charge l at = record { value = charge_at l at; fine = is_fine (charge_faults l at) }
+-- ---- the charge, if it has no fault
+abbrev pub fine_charge : List ℕ → Columns → Option ℤ
+fine_charge l at = fine (charge_faults l at) (charge_at l at)
 
-abbrev pub fine_charge_of : ℕ → ℕ → FineSigned
-fine_charge_of d s = record { value = charge_of d s; fine = digit d && is_sign s }
+abbrev pub fine_charge_of : ℕ → ℕ → Option ℤ
+fine_charge_of d s = cond (digit d && is_sign s) (Some (charge_of d s)) None
 
 -- ---- the charge beside the faults with its own noted
-abbrev pub got_charge : List ℕ → Columns → Faults → GotSigned
-got_charge l at fs = record { value = charge_at l at; faults = all_noted fs (charge_faults l at) }
+abbrev pub got_charge : List ℕ → Columns → Faults → Got ℤ
+got_charge l at fs = got (charge_at l at) (charge_faults l at) fs

@@ -7,7 +7,8 @@ use Rattle.line.specs.Given.{Given, alone}
 use Rattle.line.specs.declared.columns.Columns.{Columns}
 use Rattle.line.specs.declared.fault.Fault.{Fault}
 use Rattle.line.specs.declared.fault.Faults.{Faults}
-use Rattle.field.specs.Number.{is_fine, unsigned_at, unsigned_faults, signed_faults, real_faults, factor_faults, unsigned_from_faults}
+use Rattle.field.specs.Found.{is_fine}
+use Rattle.field.specs.Number.{unsigned_at, unsigned_faults, signed_faults, real_faults, factor_faults, unsigned_from_faults}
 use Rattle.field.specs.Text.{text_faults, character_faults}
 use Rattle.field.specs.Charge.{charge_faults}
 use Rattle.field.specs.Remark.{known_faults}

@@ -1,6 +1,6 @@
 -- Text and character fields of a line: "T trimmed text, C one character. An empty text has place 0, length 0. A blank or unreached C at ATOM 16
 -- and 26, SEQADV 22, MODRES 22, SSBOND 21 and 35 means absent; elsewhere a blank is itself."
-use Rattle.std.specs.Prelude.{ℕ, ◌+◌, ◌<◌, ◌≡◌, Bool, true, cond, List, [], ◌∷◌, length, get_or, ltb, eqb}
+use Rattle.std.specs.Prelude.{ℕ, ◌+◌, ◌<◌, ◌≡◌, Bool, true, cond, List, [], ◌∷◌, length, get_or, ltb, eqb, Option}
 use Rattle.number.specs.Trim.{span_of, kept}
 use Rattle.number.specs.declared.trim.Span.{Span}
 use Rattle.line.specs.Columns.{part_of, reached_of, rest_of}
@@ -11,12 +11,9 @@ use Rattle.line.specs.declared.text.Character.TheVariants.{At, Unreached, Absent
 use Rattle.line.specs.declared.fault.FaultKind.TheVariants.{Short}
 use Rattle.line.specs.declared.fault.Fault.{Fault}
 use Rattle.line.specs.declared.fault.Faults.{Faults}
-use Rattle.line.specs.Faults.{all_noted}
-use Rattle.field.specs.declared.text_field.FineText.{FineText}
-use Rattle.field.specs.declared.text_field.FineCharacter.{FineCharacter}
-use Rattle.field.specs.declared.text_field.GotText.{GotText}
-use Rattle.field.specs.declared.text_field.GotCharacter.{GotCharacter}
-use Rattle.field.specs.Number.{short_at, is_fine}
+use Rattle.line.specs.declared.fault.Got.{Got}
+use Rattle.field.specs.Found.{fine, got}
+use Rattle.field.specs.Number.{short_at}
 
 -- bytes from a place on, as a text: an empty one has place 0
 abbrev pub text_of : ℕ → ℕ → Text
@@ -62,22 +59,22 @@ unreached column = record { kind = Short; place = column; length = 1 }
 unfoldable pub character_faults : List ℕ → ℕ → List Fault
 character_faults l column = cond (ltb column (length l)) [] (unreached column ∷ [])
 
--- ---- a field's value, and whether the field is fine
-abbrev pub fine_text : List ℕ → Columns → FineText
-fine_text l at = record { value = text_at l at; fine = is_fine (text_faults l at) }
+-- ---- a field's value, if it has no fault
+abbrev pub fine_text : List ℕ → Columns → Option Text
+fine_text l at = fine (text_faults l at) (text_at l at)
 
-abbrev pub fine_character : List ℕ → ℕ → FineCharacter
-fine_character l column = record { value = character_at l column; fine = is_fine (character_faults l column) }
+abbrev pub fine_character : List ℕ → ℕ → Option Character
+fine_character l column = fine (character_faults l column) (character_at l column)
 
-abbrev pub fine_optional : List ℕ → ℕ → FineCharacter
-fine_optional l column = record { value = optional_at l column; fine = is_fine (character_faults l column) }
+abbrev pub fine_optional : List ℕ → ℕ → Option Character
+fine_optional l column = fine (character_faults l column) (optional_at l column)
 
 -- ---- a field's value beside the faults with its own noted
-abbrev pub got_text : List ℕ → Columns → Faults → GotText
-got_text l at fs = record { value = text_at l at; faults = all_noted fs (text_faults l at) }
+abbrev pub got_text : List ℕ → Columns → Faults → Got Text
+got_text l at fs = got (text_at l at) (text_faults l at) fs
 
-abbrev pub got_character : List ℕ → ℕ → Faults → GotCharacter
-got_character l column fs = record { value = character_at l column; faults = all_noted fs (character_faults l column) }
+abbrev pub got_character : List ℕ → ℕ → Faults → Got Character
+got_character l column fs = got (character_at l column) (character_faults l column) fs
 
-abbrev pub got_optional : List ℕ → ℕ → Faults → GotCharacter
-got_optional l column fs = record { value = optional_at l column; faults = all_noted fs (character_faults l column) }
+abbrev pub got_optional : List ℕ → ℕ → Faults → Got Character
+got_optional l column fs = got (optional_at l column) (character_faults l column) fs

@@ -2,69 +2,38 @@
 ghost use Rattle.std.specs.Prelude.{◌≡◌, ◌<◌};
 ghost use Rattle.field.specs.Charge as specs;
 
-use crate::number_field::{FineSigned, GotSigned};
+use crate::found::found_or;
 use line::columns::Columns;
-use line::fault::{Fault, FaultKind, Faults};
-
-fn both_blank(a: u8, b: u8) -> bool
-    ensures { result ≡ specs.both_blank a b }
-{
-    if a == 32 {
-        return b == 32;
-    }
-    false
-}
+use line::fault::{Fault, FaultKind, Faults, Got};
 
 // A digit and then a sign, in two columns that aren't both blank.
-fn read_charge(digit: u8, sign: u8) -> FineSigned
+fn read_charge(digit: u8, sign: u8) -> Option<i64>
     ensures { result ≡ specs.fine_charge_of digit sign }
 {
     if digit < 48 {
-        return FineSigned {
-            value: 0,
-            fine: false,
-        };
+        return None;
     }
     if 57 < digit {
-        return FineSigned {
-            value: 0,
-            fine: false,
-        };
+        return None;
     }
     let size = (digit - 48) as i64;
-    if sign == 43 {
-        return FineSigned {
-            value: size,
-            fine: true,
-        };
-    }
-    if sign == 45 {
-        return FineSigned {
-            value: 0 - size,
-            fine: true,
-        };
-    }
-    FineSigned {
-        value: 0,
-        fine: false,
+    match sign {
+        43 => Some(size),
+        45 => Some(0 - size),
+        _ => None,
     }
 }
 
-pub fn fine_charge(line: &[u8], at: Columns) -> FineSigned
+// A line that doesn't reach both columns has no charge, and one with two blanks neither.
+pub fn fine_charge(line: &[u8], at: Columns) -> Option<i64>
     ensures { result ≡ specs.fine_charge line.now at }
 {
     let part = at.part(line);
     if part.len() != 2 {
-        return FineSigned {
-            value: 0,
-            fine: true,
-        };
+        return Some(0);
     }
-    if both_blank(part[0], part[1]) {
-        return FineSigned {
-            value: 0,
-            fine: true,
-        };
+    if part[0] == 32 && part[1] == 32 {
+        return Some(0);
     }
     read_charge(part[0], part[1])
 }
@@ -74,28 +43,17 @@ fn charge_fault(digit: u8, start: u16) -> Fault
     requires { start < 65535 }
     ensures { result ≡ specs.charge_fault digit start }
 {
-    if digit < 48 {
-        return Fault::new(FaultKind::NoDigit, start, 1);
+    match digit {
+        48..=57 => Fault::new(FaultKind::NoSign, start + 1, 1),
+        _ => Fault::new(FaultKind::NoDigit, start, 1),
     }
-    if digit <= 57 {
-        return Fault::new(FaultKind::NoSign, start + 1, 1);
-    }
-    Fault::new(FaultKind::NoDigit, start, 1)
 }
 
-pub fn charge(line: &[u8], at: Columns, faults: Faults) -> GotSigned
+pub fn charge(line: &[u8], at: Columns, faults: Faults) -> Got<i64>
     ensures { result ≡ specs.got_charge line.now at faults }
 {
-    let got = fine_charge(line, at);
-    if got.fine {
-        return GotSigned {
-            value: got.value,
-            faults,
-        };
-    }
     let part = at.part(line);
-    GotSigned {
-        value: got.value,
-        faults: faults.note(charge_fault(part[0], at.start)),
-    }
+    found_or(fine_charge(line, at), 0, faults, || {
+        charge_fault(part[0], at.start)
+    })
 }

@@ -3,6 +3,7 @@
 #![tactic(auto)]
 
 pub mod charge;
+mod found;
 pub mod number_field;
 pub mod quick;
 pub mod remark;

@@ -9,11 +9,9 @@ use line::fault::{Fault, FaultKind, Faults};
 fn is_known(remarks: &[u8], number: u64) -> bool
     ensures { result ≡ specs.is_known remarks.now number }
 {
-    let n = number as usize;
-    if remarks.len() <= n {
-        return false;
-    }
-    remarks[n] != 0
+    remarks
+        .get(number as usize)
+        .is_some_and(|valid| *valid != 0)
 }
 
 // The look-up of the number that stands in the columns.

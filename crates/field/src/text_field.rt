@@ -3,37 +3,12 @@ ghost use Rattle.std.specs.Prelude.{◌≡◌, ◌≤◌};
 ghost use Rattle.number.specs.Trim.{span_of};
 ghost use Rattle.field.specs.Text as specs;
 
+use crate::found::found_or;
 use crate::number_field::{ends_before, short};
 use line::columns::{Columns, from_column};
-use line::fault::{Fault, FaultKind, Faults};
+use line::fault::{Fault, FaultKind, Faults, Got};
 use line::text::{Character, Text};
 use number::trim::{kept_length, read_text};
-
-// A field's value, and whether the field is fine.
-#[derive(Clone, Copy)]
-pub struct FineText {
-    pub value: Text,
-    pub fine: bool,
-}
-
-#[derive(Clone, Copy)]
-pub struct FineCharacter {
-    pub value: Character,
-    pub fine: bool,
-}
-
-// A field's value beside the list with the field's fault, if it has one.
-#[derive(Clone, Copy)]
-pub struct GotText {
-    pub value: Text,
-    pub faults: Faults,
-}
-
-#[derive(Clone, Copy)]
-pub struct GotCharacter {
-    pub value: Character,
-    pub faults: Faults,
-}
 
 // Whether the whole of a part is kept by trim, which is seen at once where its first and its last byte are over 32. Of other parts nothing is said.
 fn is_whole(part: &[u8]) -> bool
@@ -64,28 +39,20 @@ fn shifted(start: usize, part: &[u8]) -> Text
     Text::new(start + span.place, span.length)
 }
 
-pub fn fine_text(line: &[u8], at: Columns) -> FineText
+// A line that ends before the field's last column has a fault there.
+pub fn fine_text(line: &[u8], at: Columns) -> Option<Text>
     ensures { result ≡ specs.fine_text line.now at }
 {
-    let value = shifted(at.start as usize, at.part(line));
     if ends_before(line, at) {
-        return FineText { value, fine: false };
+        return None;
     }
-    FineText { value, fine: true }
+    Some(shifted(at.start as usize, at.part(line)))
 }
 
-pub fn text(line: &[u8], at: Columns, faults: Faults) -> GotText
+pub fn text(line: &[u8], at: Columns, faults: Faults) -> Got<Text>
     ensures { result ≡ specs.got_text line.now at faults }
 {
-    let got = fine_text(line, at);
-    let value = got.value;
-    if got.fine {
-        return GotText { value, faults };
-    }
-    GotText {
-        value,
-        faults: faults.note(short(at)),
-    }
+    found_or(fine_text(line, at), Text::new(0, 0), faults, || short(at))
 }
 
 // The text of what the line reaches of the columns.
@@ -122,69 +89,48 @@ fn short_character(column: u16) -> Fault
     Fault::new(FaultKind::Short, column, 1)
 }
 
-pub fn fine_character(line: &[u8], column: u16) -> FineCharacter
+pub fn fine_character(line: &[u8], column: u16) -> Option<Character>
     ensures { result ≡ specs.fine_character line.now column }
 {
     let at = column as usize;
     if line.len() <= at {
-        return FineCharacter {
-            value: Character::Unreached,
-            fine: false,
-        };
+        return None;
     }
-    FineCharacter {
-        value: Character::At(at),
-        fine: true,
-    }
+    Some(Character::At(at))
 }
 
-pub fn character(line: &[u8], column: u16, faults: Faults) -> GotCharacter
+pub fn character(line: &[u8], column: u16, faults: Faults) -> Got<Character>
     ensures { result ≡ specs.got_character line.now column faults }
 {
-    let got = fine_character(line, column);
-    let value = got.value;
-    if got.fine {
-        return GotCharacter { value, faults };
-    }
-    GotCharacter {
-        value,
-        faults: faults.note(short_character(column)),
-    }
+    found_or(
+        fine_character(line, column),
+        Character::Unreached,
+        faults,
+        || short_character(column),
+    )
 }
 
 // A character whose blank means that it is absent.
-pub fn fine_optional(line: &[u8], column: u16) -> FineCharacter
+pub fn fine_optional(line: &[u8], column: u16) -> Option<Character>
     ensures { result ≡ specs.fine_optional line.now column }
 {
     let at = column as usize;
     if line.len() <= at {
-        return FineCharacter {
-            value: Character::Absent,
-            fine: false,
-        };
+        return None;
     }
     if line[at] == 32 {
-        return FineCharacter {
-            value: Character::Absent,
-            fine: true,
-        };
+        return Some(Character::Absent);
     }
-    FineCharacter {
-        value: Character::At(at),
-        fine: true,
-    }
+    Some(Character::At(at))
 }
 
-pub fn optional(line: &[u8], column: u16, faults: Faults) -> GotCharacter
+pub fn optional(line: &[u8], column: u16, faults: Faults) -> Got<Character>
     ensures { result ≡ specs.got_optional line.now column faults }
 {
-    let got = fine_optional(line, column);
-    let value = got.value;
-    if got.fine {
-        return GotCharacter { value, faults };
-    }
-    GotCharacter {
-        value,
-        faults: faults.note(short_character(column)),
-    }
+    found_or(
+        fine_optional(line, column),
+        Character::Absent,
+        faults,
+        || short_character(column),
+    )
 }

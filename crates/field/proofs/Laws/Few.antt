@@ -12,6 +12,7 @@ use mathlib.Core.Bool.{Bool, true, false, cond, not, ◌&&◌}
 use mathlib.Core.List.{List, [], ◌∷◌}
 use native.Mathlib.Omega.{arith}
 use borrow.Author.Tests.{leb-true, lt-ltb, le-ltb}
+use Rattle.std.specs.Prelude.{is_some}
 use lib.ListN.{length, length-append}
 use lib.Dec.{leb, lit≤}
 use Rattle.number.specs.Whole.{unsigned_of}
@@ -22,7 +23,8 @@ use Rattle.line.specs.declared.fault.Fault.{Fault}
 use Rattle.line.specs.declared.fault.FaultKind.TheVariants.{Unknown}
 use Rattle.line.specs.declared.fault.Sort.{Sort}
 use Rattle.line.specs.declared.fault.Sort.TheVariants.{Unsigned}
-use Rattle.field.specs.Number.{is_fine, is_u, fault_at, wrong_at, number_fault, number_faults, unsigned_at, rest_columns, unsigned_from_faults}
+use Rattle.field.specs.Found.{is_fine}
+use Rattle.field.specs.Number.{fault_at, wrong_at, number_fault, number_faults, unsigned_at, rest_columns, unsigned_from_faults}
 use Rattle.field.specs.Text.{text_faults, character_faults, unreached}
 use Rattle.field.specs.Charge.{charged, charge_faults}
 use Rattle.field.specs.Remark.{is_known, known_faults}
@@ -98,7 +100,7 @@ module _ (n : ℕ) (long : Bool) (g : Given) (h : Ends n long g.line) where
   entry_most (c at) = character_most g.line at.start
   entry_most (c? at) = character_most g.line at.start
   entry_most (a at) = number-most g.line at _ _
-  entry_most (u-rest start) = choice_most (is_u (unsigned_of (rest_of g.line start))) (wrong_at Unsigned (rest_columns g.line start))
+  entry_most (u-rest start) = choice_most (is_some (unsigned_of (rest_of g.line start))) (wrong_at Unsigned (rest_columns g.line start))
   entry_most (x at) = lit≤ tt
   entry_most (t_within at) = lit≤ tt
   entry_most (t-rest start) = lit≤ tt

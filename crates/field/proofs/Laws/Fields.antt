@@ -12,6 +12,7 @@ use mathlib.Core.Bool.{Bool, true, false, cond, ◌&&◌, and-false}
 use mathlib.Core.List.{List, []}
 use native.Mathlib.Omega.{arith}
 use borrow.Author.Tests.{leb-true, lt-leb, ne_eqb}
+use Rattle.std.specs.Prelude.{Option, Some, None, unwrap_or}
 use lib.ListN.{length, take, drop, get_or, length-take}
 use lib.Dec.{leb, ltb, eqb, lit<}
 use lib.IntN.{ℤ, pos}
@@ -26,15 +27,11 @@ use Rattle.number.specs.Wide.{mark_at, marked_parts, marked_in, marked_of, wide_
 use Rattle.real.specs.Real.{real_of, ten_thousandths_of}
 use Rattle.real.specs.Wide.{real_with}
 use Rattle.number.specs.declared.trim.Span.{Span}
-use Rattle.number.specs.declared.whole.Unsigned.TheVariants.{NotU}
-use Rattle.number.specs.declared.whole.Signed.{Signed}
-use Rattle.number.specs.declared.whole.Signed.TheVariants.{I, NotI}
-use Rattle.real.specs.declared.Real.TheVariants.{NotR}
 use Rattle.number.proofs.Laws.Trim.{leading_le, leading-other, kept-other, span_some}
 use Rattle.number.proofs.Laws.Width.{signed-fits}
 use Rattle.line.specs.Columns.{part_of}
 use Rattle.line.specs.declared.columns.Columns.{Columns}
-use Rattle.field.specs.Number.{or_i, signed_at}
+use Rattle.field.specs.Number.{signed_at}
 use Rattle.field.specs.Text.{shifted}
 use Rattle.line.specs.declared.text.Text.{Text}
 use Rattle.field.specs.Charge.{is_sign, charged, charge_of, charge_at}
@@ -43,21 +40,21 @@ pub part-short : (l : List ℕ) (at : Columns) → ltb (length l) at.end ≡ tru
 unfolding part_of
 part-short l at e = rw e refl
 
-pub unsigned-none : unsigned_of [] ≡ NotU
+pub unsigned-none : unsigned_of [] ≡ None
 unfolding unsigned_of digits_of digits after_plus begins trimmed end_trimmed leading kept
 unsigned-none = refl
 
-pub signed-none : signed_of [] ≡ NotI
+pub signed-none : signed_of [] ≡ None
 unfolding signed_of signed_digits digits after_sign begins trimmed end_trimmed leading kept
 signed-none = refl
 
-pub real-none : (on : Bool) → real_with on [] ≡ NotR
+pub real-none : (on : Bool) → real_with on [] ≡ None
 unfolding real_with real_of decimal_of plain_of without_point before_point behind_point digits after_sign begins trimmed end_trimmed leading kept
     wide_of marked_of marked_in marked_parts mark_at digits_of
 real-none false = refl
 real-none true = refl
 
-pub factor-none : ten_thousandths_of [] ≡ NotR
+pub factor-none : ten_thousandths_of [] ≡ None
 unfolding ten_thousandths_of signed_of signed_digits digits after_sign begins trimmed end_trimmed leading kept
 factor-none = refl
 
@@ -99,9 +96,9 @@ two-columns l at e = go (ltb (length l) at.end) e
     go false e = let h = length-take (at.end - at.start) (drop at.start l) in omega arith
 
 -- ---- what the machine reads back from a signed field's bits is the field
-signed_in_lem : (t : List ℕ) (s : Signed) → signed_of t ≡ s → mag (or_i s) < 2 ^ 63
-signed_in_lem t (I z) e = signed-fits t e
-signed_in_lem t NotI e = lit< tt
+signed_in_lem : (t : List ℕ) (s : Option ℤ) → signed_of t ≡ s → mag (unwrap_or s (pos 0)) < 2 ^ 63
+signed_in_lem t (Some z) e = signed-fits t e
+signed_in_lem t None e = lit< tt
 
 pub signed-held : (l : List ℕ) (at : Columns) → to_z w64 (of_z w64 (signed_at l at)) ≡ signed_at l at
 unfolding signed_at

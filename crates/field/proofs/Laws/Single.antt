@@ -11,9 +11,6 @@ fine_charge-one w κs a g = equation w (λ u v. refl)
 pub charge-one : One its.charge.charge.ended (λ M 𝓤. its.charge.charge.clauses)
 charge-one w κs a g = equation w (λ u v. refl)
 
-pub finereal_is_fine_one : One its.number_field.FineReal.is_fine.ended (λ M 𝓤. its.number_field.FineReal.is_fine.clauses)
-finereal_is_fine_one w κs a g = equation w (λ u v. refl)
-
 pub short-one : One its.number_field.short.ended (λ M 𝓤. its.number_field.short.clauses)
 short-one w κs a g = equation w (λ u v. refl)
 
@@ -47,17 +44,11 @@ factor-one w κs a g = equation w (λ u v. refl)
 pub unsigned_from-one : One its.number_field.unsigned_from.ended (λ M 𝓤. its.number_field.unsigned_from.clauses)
 unsigned_from-one w κs a g = equation w (λ u v. refl)
 
-pub fine_thousandths_one : One its.quick.fine_thousandths.ended (λ M 𝓤. its.quick.fine_thousandths.clauses)
-fine_thousandths_one w κs a g = equation w (λ u v. refl)
+pub signed_four_one : One its.quick.signed_four.ended (λ M 𝓤. its.quick.signed_four.clauses)
+signed_four_one w κs a g = equation w (λ u v. refl)
 
-pub fine_hundredths_one : One its.quick.fine_hundredths.ended (λ M 𝓤. its.quick.fine_hundredths.clauses)
-fine_hundredths_one w κs a g = equation w (λ u v. refl)
-
-pub fine_four_one : One its.quick.fine_four.ended (λ M 𝓤. its.quick.fine_four.clauses)
-fine_four_one w κs a g = equation w (λ u v. refl)
-
-pub fine_five_one : One its.quick.fine_five.ended (λ M 𝓤. its.quick.fine_five.clauses)
-fine_five_one w κs a g = equation w (λ u v. refl)
+pub unsigned_five_one : One its.quick.unsigned_five.ended (λ M 𝓤. its.quick.unsigned_five.clauses)
+unsigned_five_one w κs a g = equation w (λ u v. refl)
 
 pub known-one : One its.remark.known.ended (λ M 𝓤. its.remark.known.clauses)
 known-one w κs a g = equation w (λ u v. refl)

@@ -1,24 +1,19 @@
 -- `field::number_field::fine_real_with` meets its contract: a plain decimal is read the same with the option on, and what is none with its exponent.
 -- Assumes nothing.
-use mathlib.Core.Path.{sym, ◌∙◌}
-use mathlib.Core.Bool.{false}
-use Rattle.field.proofs.Laws.Fine.{fine-read}
-use Rattle.field.proofs.Laws.Either.{plain-fine, exponent_fine}
+use Rattle.std.proofs.Common.{rules, ◌∙◌}
+use Rattle.number.specs.Wide.{marked_of}
+use Rattle.real.specs.Wide.{wide_real}
+use Rattle.line.specs.Columns.{part_of}
+use Rattle.field.proofs.Laws.Either.{either-real}
+use Rattle.field.proofs.Laws.Quick.{or-is}
 use Rattle.field.proofs.number_field.fine_real_with.Goals as goal
 
-pub returns-then-is_fine : goal.returns-then-is_fine
-returns-then-is_fine c =
-    let a = c.args in
-    let got = c.fine_real-plain.ensures in
-    let e = sym (rw got at c.is_fine.ensures ∙ fine-read false a.line.now a.at) ∙ c.if-is_fine.true in
-    got ∙ plain-fine a.line.now a.at e a.exponents a.default
-
-pub returns-then-exponents : goal.returns-then-exponents
-returns-then-exponents c =
-    let a = c.args in
-    let got = c.fine_real-plain.ensures in
-    let e = sym (rw got at c.is_fine.ensures ∙ fine-read false a.line.now a.at) ∙ c.if-is_fine.false in
-    rw c.if-exponents.true (c.fine_exponent.ensures ∙ exponent_fine a.line.now a.at e a.default)
+pub returns-then-not-exponents : goal.returns-then-not-exponents
+returns-then-not-exponents c = rw c.if-not-exponents.true c.fine_real.ensures
 
 pub returns : goal.returns
-returns c = rw c.if-exponents.false c.fine_real-plain.ensures
+returns c =
+    let l = c.args.line.now in
+    let at = c.args.at in
+    rw c.if-not-exponents.false
+    (or-is c.fine_real-2.result (wide_real (marked_of (part_of l at))) _ (λ p. search rules) c.or_else.ensures ∙ rw c.fine_real-2.ensures (either-real l at))

@@ -1,19 +1,17 @@
 -- `field::number_field::unsigned` meets its contract: a fine field notes nothing, and one that isn't notes its one fault.
 -- Assumes nothing.
-use mathlib.Core.Path.{refl}
-use Rattle.field.specs.Number.{unsigned_faults}
-use Rattle.field.proofs.Laws.Fine.{fine-none, number-one}
+use Rattle.std.proofs.Common.{rules}
+use Rattle.line.specs.declared.fault.Sort.TheVariants.{Unsigned}
+use Rattle.field.specs.Number.{unsigned_at, unsigned_faults, number_fault}
+use Rattle.field.proofs.Laws.Fine.{number-one, unsigned-default}
+use Rattle.field.proofs.Laws.Found.{got-found}
 use Rattle.field.proofs.number_field.unsigned.Goals as goal
-
-pub returns-then-got : goal.returns-then-got
-returns-then-got c =
-    let a = c.args in
-    let got = c.fine_unsigned-got.ensures in
-    let e = rw got at c.if-got.true in
-    rw (got, fine-none (unsigned_faults a.line.now a.at) e) refl
 
 pub returns : goal.returns
 returns c =
-    let got = c.fine_unsigned-got.ensures in
-    let e = rw got at c.if-got.false in
-    rw (c.note.ensures, c.number_fault.ensures, got, number-one _ _ _ _ e) refl
+    let l = c.args.line.now in
+    let at = c.args.at in
+    got-found (unsigned_faults l at) (unsigned_at l at) _ (number_fault l at Unsigned) c.args.faults _ c.fine_unsigned.ensures (number-one l at Unsigned _)
+    (unsigned-default l at)
+    (λ f p. search rules)
+    c.found_or.ensures

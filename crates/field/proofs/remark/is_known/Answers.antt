@@ -1,17 +1,15 @@
 -- `field::remark::is_known` meets its contract: past its end the table holds 0.
 -- Assumes nothing.
-use mathlib.Core.Path.{refl}
+use Rattle.std.proofs.Common.{rules, ◌≡◌, ℕ, Bool, false, not, eqb, List, Bor, Option, Some, None, MatchOption, ◌∙◌}
+use Rattle.std.specs.Slice.{IsItemAt}
 use Rattle.field.specs.Remark.{is_known}
-use lib.ListN.{get_or-eq_default}
 use Rattle.field.proofs.remark.is_known.Goals as goal
 
-pub returns-then-remarks-n : goal.returns-then-remarks-n
+valid : (t : List ℕ) (n : ℕ) (r : Option (Bor ℕ)) (P : Bor ℕ → Type 0) {b : Bool} → IsItemAt t n r → ((x : Bor ℕ) → P x → b ≡ not (eqb x.now 0))
+    → MatchOption r (b ≡ false) P → b ≡ is_known t n
 unfolding is_known
-returns-then-remarks-n c =
-    let t = c.args.remarks.now in
-    let n = c.args.number in
-    rw (get_or-eq_default t 0 {n = n} c.if-remarks-n.true) refl
+valid t n (Some x) P at is h = is x h ∙ search rules
+valid t n None P at is h = h ∙ search rules
 
 pub returns : goal.returns
-unfolding is_known
-returns c = refl
+returns c = valid _ _ _ _ c.get.ensures.lookup (λ x p. search rules) c.is_some_and.ensures

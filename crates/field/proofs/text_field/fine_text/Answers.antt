@@ -5,13 +5,9 @@ use Rattle.field.specs.Text.{text_at, text_faults}
 use Rattle.field.proofs.text_field.fine_text.Goals as goal
 
 pub returns-then-ends_before : goal.returns-then-ends_before
-unfolding text_at text_faults
-returns-then-ends_before c =
-    let e = sym c.ends_before.ensures ∙ c.if-ends_before.true in
-    rw (c.shifted-value.ensures, c.part.ensures, e) refl
+unfolding text_faults
+returns-then-ends_before c = rw (sym c.ends_before.ensures ∙ c.if-ends_before.true) refl
 
 pub returns : goal.returns
 unfolding text_at text_faults
-returns c =
-    let e = sym c.ends_before.ensures ∙ c.if-ends_before.false in
-    rw (c.shifted-value.ensures, c.part.ensures, e) refl
+returns c = rw (c.shifted.ensures, c.part.ensures, sym c.ends_before.ensures ∙ c.if-ends_before.false) refl

@@ -1,19 +1,16 @@
 -- `field::text_field::optional` meets its contract: a fine field notes nothing, and one that isn't notes its one fault.
 -- Assumes nothing.
-use mathlib.Core.Path.{refl}
-use Rattle.field.specs.Text.{character_faults}
-use Rattle.field.proofs.Laws.Fine.{fine-none, character_one}
+use Rattle.std.proofs.Common.{rules}
+use Rattle.field.specs.Text.{optional_at, character_faults, unreached}
+use Rattle.field.proofs.Laws.Fine.{character_one, character-none}
+use Rattle.field.proofs.Laws.Found.{got-found}
 use Rattle.field.proofs.text_field.optional.Goals as goal
-
-pub returns-then-got : goal.returns-then-got
-returns-then-got c =
-    let a = c.args in
-    let got = c.fine_optional-got.ensures in
-    let e = rw got at c.if-got.true in
-    rw (got, fine-none (character_faults a.line.now a.column) e) refl
 
 pub returns : goal.returns
 returns c =
-    let got = c.fine_optional-got.ensures in
-    let e = rw got at c.if-got.false in
-    rw (c.note.ensures, c.short_character.ensures, got, character_one _ _ e) refl
+    let l = c.args.line.now in
+    let k = c.args.column in
+    got-found (character_faults l k) (optional_at l k) _ (unreached k) c.args.faults _ c.fine_optional.ensures (character_one l k)
+    (λ e. (character-none l k e).1)
+    (λ f p. search rules)
+    c.found_or.ensures

@@ -1,19 +1,17 @@
 -- `field::text_field::text` meets its contract: a fine field notes nothing, and one that isn't notes its one fault.
 -- Assumes nothing.
-use mathlib.Core.Path.{refl}
-use Rattle.field.specs.Text.{text_faults}
-use Rattle.field.proofs.Laws.Fine.{fine-none, text-one}
+use Rattle.std.proofs.Common.{rules, sym, ◌∙◌}
+use Rattle.field.specs.Number.{short_at}
+use Rattle.field.specs.Text.{text_at, text_faults}
+use Rattle.field.proofs.Laws.Fine.{text-one, text-none}
+use Rattle.field.proofs.Laws.Found.{got-found}
 use Rattle.field.proofs.text_field.text.Goals as goal
-
-pub returns-then-got : goal.returns-then-got
-returns-then-got c =
-    let a = c.args in
-    let got = c.fine_text-got.ensures in
-    let e = rw got at c.if-got.true in
-    rw (got, fine-none (text_faults a.line.now a.at) e) refl
 
 pub returns : goal.returns
 returns c =
-    let got = c.fine_text-got.ensures in
-    let e = rw got at c.if-got.false in
-    rw (c.note.ensures, c.short.ensures, got, text-one _ _ e) refl
+    let l = c.args.line.now in
+    let at = c.args.at in
+    got-found (text_faults l at) (text_at l at) c.new.result (short_at at) c.args.faults _ c.fine_text.ensures (text-one l at)
+    (λ e. text-none l at e ∙ sym c.new.ensures)
+    (λ f p. search rules)
+    c.found_or.ensures
