@@ -4,7 +4,6 @@ use Rattle.field.specs.Number.{real_at, places_at, unsigned_from, zero_real}
 use Rattle.field.specs.Table.{Entry, table_noted, line_noted}
 use Rattle.field.specs.Table.Entry.{r, t_within, u-rest, unwritten}
 use Rattle.field.specs.Text.{text_within}
-use Rattle.field.specs.declared.number_field.GotUnsigned.{GotUnsigned}
 use Rattle.line.specs.Columns.{◌⋯◌}
 use Rattle.line.specs.Faults.{no_faults}
 use Rattle.line.specs.Given.{Given}
@@ -78,7 +77,7 @@ z_of false l = 1
 abbrev pub crystal_of : Bool → List ℕ → Crystal
 crystal_of on l = record { cell = cell_of on l; places = cell_places_of on l; spacegroup = text_within l (at spacegroup); z = z_of (has_z l) l }
 
-abbrev pub got_z : List ℕ → Faults → GotUnsigned
+abbrev pub got_z : List ℕ → Faults → Got ℕ
 got_z l fs = record { value = z_of (has_z l) l; faults = line_noted l (z_entry (has_z l) ∷ []) fs }
 
 abbrev pub got_crystal : Given → Got Crystal

@@ -5,7 +5,7 @@ ghost use Rattle.line.specs.Given.{taking};
 ghost use Rattle.crystal.specs.Crystal as specs;
 
 use crate::record::{Cell, CellPlaces, Crystal};
-use field::number_field::{GotUnsigned, real, unsigned_from};
+use field::number_field::{real, unsigned_from};
 use field::text_field::text_within;
 use line::fault::{Faults, Got};
 
@@ -20,20 +20,20 @@ fn lex_cell(line: &[u8], exponents: bool, faults: Faults) -> Got<(Cell, CellPlac
     let beta = real(line, Cell::BETA, 0.0, exponents, alpha.faults);
     let gamma = real(line, Cell::GAMMA, 0.0, exponents, beta.faults);
     let cell = Cell::new(
-        a.value,
-        b.value,
-        c.value,
-        alpha.value,
-        beta.value,
-        gamma.value,
+        a.value.value,
+        b.value.value,
+        c.value.value,
+        alpha.value.value,
+        beta.value.value,
+        gamma.value.value,
     );
     let places = CellPlaces {
-        a: a.places,
-        b: b.places,
-        c: c.places,
-        alpha: alpha.places,
-        beta: beta.places,
-        gamma: gamma.places,
+        a: a.value.places,
+        b: b.value.places,
+        c: c.value.places,
+        alpha: alpha.value.places,
+        beta: beta.value.places,
+        gamma: gamma.value.places,
     };
     Got {
         value: (cell, places),
@@ -41,11 +41,11 @@ fn lex_cell(line: &[u8], exponents: bool, faults: Faults) -> Got<(Cell, CellPlac
     }
 }
 
-fn lex_z(line: &[u8], faults: Faults) -> GotUnsigned
+fn lex_z(line: &[u8], faults: Faults) -> Got<u64>
     ensures { result ≡ specs.got_z line.now faults }
 {
     if line.len() <= Crystal::Z as usize {
-        return GotUnsigned {
+        return Got {
             value: Crystal::Z_DEFAULT,
             faults,
         };

@@ -16,8 +16,5 @@ pub fn lex_model(line: &[u8], mode: Mode) -> Got<Model>
         Mode::Crate => unsigned_from(line, Model::NUMBER, none),
         Mode::WwPdb => unsigned(line, Model::SERIAL, none),
     };
-    Got {
-        value: Model::new(number.value, mode),
-        faults: number.faults,
-    }
+    number.map(|number| Model::new(number, mode))
 }

@@ -46,8 +46,8 @@ fn lex_tail(line: &[u8], exponents: bool, faults: Faults) -> Got<Option<Bond>>
     let bond = Bond {
         first: first.value,
         second: second.value,
-        length: length.value,
-        places: length.places,
+        length: length.value.value,
+        places: length.value.places,
     };
     Got {
         value: Some(bond),

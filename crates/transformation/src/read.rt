@@ -16,12 +16,12 @@ fn lex_values(line: &[u8], exponents: bool, faults: Faults) -> Got<(Transformati
     let b = real(line, Transformation::B, 0.0, exponents, a.faults);
     let c = real(line, Transformation::C, 0.0, exponents, b.faults);
     let d = real(line, Transformation::D, 0.0, exponents, c.faults);
-    let values = Transformation::new(a.value, b.value, c.value, d.value);
+    let values = Transformation::new(a.value.value, b.value.value, c.value.value, d.value.value);
     let places = RowPlaces {
-        a: a.places,
-        b: b.places,
-        c: c.places,
-        d: d.places,
+        a: a.value.places,
+        b: b.value.places,
+        c: c.value.places,
+        d: d.value.places,
     };
     Got {
         value: (values, places),
