@@ -18,6 +18,7 @@ use Rattle.row.specs.Rows.{◌is◌}
 use Rattle.row.specs.declared.Row.{Row}
 use Rattle.row.specs.declared.Value.TheVariants.{Signed, Words, One}
 use Rattle.dbref.specs.declared.record.Segment.{Segment}
+use Rattle.dbref.specs.declared.record.SegmentAt.{SegmentAt}
 use Rattle.dbref.specs.declared.record.Dbref.{Dbref}
 use Rattle.dbref.specs.declared.record.Dbref1.{Dbref1}
 use Rattle.dbref.specs.declared.record.Dbref2.{Dbref2}
@@ -42,14 +43,8 @@ dbref2_table = t (7 ⋯ 11) ∷ t (12 ⋯ 13) ∷ t (18 ⋯ 40) ∷ i (45 ⋯ 55
 
 -- ---- the columns by name, for the records and their rows
 -- where a stretch of a sequence begins and ends, with insertion codes
-pub record SegmentAt : Type 0 where
-  pub begin : Columns
-  pub opening : Columns
-  pub end : Columns
-  pub closing : Columns
-
 abbrev pub ending_in : Columns → SegmentAt
-ending_in end = record { begin = 14 ⋯ 18; opening = only 18; end = end; closing = only 24 }
+ending_in end = record { begin = 14 ⋯ 18; opening = 18; end = end; closing = 24 }
 
 abbrev pub own_segment : SegmentAt
 own_segment = ending_in (20 ⋯ 24)
@@ -58,7 +53,7 @@ abbrev pub segment_by : Mode → SegmentAt
 segment_by mode = ending_in (end_by mode)
 
 abbrev pub database_segment : SegmentAt
-database_segment = record { begin = 55 ⋯ 60; opening = only 60; end = 62 ⋯ 67; closing = only 67 }
+database_segment = record { begin = 55 ⋯ 60; opening = 60; end = 62 ⋯ 67; closing = 67 }
 
 pub data Field : Type 0 where
   code chain database accession name name1 accession2 begin2 end2 : Field
@@ -77,14 +72,14 @@ at end2 = 57 ⋯ 67
 
 -- a segment's part of a table
 abbrev pub segment_table : SegmentAt → List Entry
-segment_table s = i s.begin ∷ c s.opening ∷ i s.end ∷ c s.closing ∷ []
+segment_table s = i s.begin ∷ c (only s.opening) ∷ i s.end ∷ c (only s.closing) ∷ []
 
 abbrev pub segment_of : List ℕ → SegmentAt → Segment
 segment_of l s = record {
   begin = signed_at l s.begin;
-  opening = character_at l s.opening.start;
+  opening = character_at l s.opening;
   end = signed_at l s.end;
-  closing = character_at l s.closing.start;
+  closing = character_at l s.closing;
 }
 
 abbrev pub dbref_of : List ℕ → Dbref
@@ -119,10 +114,8 @@ dbref2_of l = record {
 }
 
 -- a segment, read from columns that are handed over
-abbrev pub got_segment : List ℕ → Columns → ℕ → Columns → ℕ → Faults → Got Segment
-got_segment l begin opening end closing fs =
-    let s : SegmentAt = record { begin = begin; opening = only opening; end = end; closing = only closing } in
-    record { value = segment_of l s; faults = line_noted l (segment_table s) fs }
+abbrev pub got_segment : List ℕ → SegmentAt → Faults → Got Segment
+got_segment l s fs = record { value = segment_of l s; faults = line_noted l (segment_table s) fs }
 
 abbrev pub got_dbref : Given → Got Dbref
 got_dbref g = record { value = dbref_of g.line; faults = table_noted g dbref_table no_faults }
@@ -138,9 +131,9 @@ got_dbref2 g = record { value = dbref2_of g.line; faults = table_noted g dbref2_
 abbrev pub segment_fields : SegmentAt → Segment → List Row
 segment_fields s v =
     s.begin.start is Signed v.begin
-    ∷ s.opening.start is One v.opening
+    ∷ s.opening is One v.opening
     ∷ s.end.start is Signed v.end
-    ∷ s.closing.start is One v.closing
+    ∷ s.closing is One v.closing
     ∷ []
 
 abbrev pub dbref_fields : Dbref → List Row

@@ -3,28 +3,20 @@ ghost use Rattle.std.specs.Prelude.{◌≡◌};
 ghost use Rattle.line.specs.Given.{alone, in_mode};
 ghost use Rattle.dbref.specs.Dbref as specs;
 
-use crate::record::{Dbref, Dbref1, Dbref2, Segment};
+use crate::record::{Dbref, Dbref1, Dbref2, Segment, SegmentAt};
 use field::number_field::signed;
 use field::text_field::{character, text};
-use line::columns::Columns;
 use line::fault::{Faults, Got};
 use line::options::Mode;
 
 // Where a stretch begins and ends, each with its insertion code.
-fn lex_segment(
-    line: &[u8],
-    begin: Columns,
-    opening: u16,
-    end: Columns,
-    closing: u16,
-    faults: Faults,
-) -> Got<Segment>
-    ensures { result ≡ specs.got_segment line.now begin opening end closing faults }
+fn lex_segment(line: &[u8], at: SegmentAt, faults: Faults) -> Got<Segment>
+    ensures { result ≡ specs.got_segment line.now at faults }
 {
-    let begin = signed(line, begin, faults);
-    let opening = character(line, opening, begin.faults);
-    let end = signed(line, end, opening.faults);
-    let closing = character(line, closing, end.faults);
+    let begin = signed(line, at.begin, faults);
+    let opening = character(line, at.opening, begin.faults);
+    let end = signed(line, at.end, opening.faults);
+    let closing = character(line, at.closing, end.faults);
     Got {
         value: Segment::new(begin.value, opening.value, end.value, closing.value),
         faults: closing.faults,
@@ -36,25 +28,11 @@ pub fn lex_dbref(line: &[u8]) -> Got<Dbref>
 {
     let code = text(line, Dbref::CODE, Faults::none());
     let chain = text(line, Dbref::CHAIN, code.faults);
-    let segment = lex_segment(
-        line,
-        Dbref::BEGIN,
-        Dbref::OPENING,
-        Dbref::END,
-        Dbref::CLOSING,
-        chain.faults,
-    );
+    let segment = lex_segment(line, Dbref::SEGMENT, chain.faults);
     let database = text(line, Dbref::DATABASE, segment.faults);
     let accession = text(line, Dbref::ACCESSION, database.faults);
     let name = text(line, Dbref::NAME, accession.faults);
-    let target = lex_segment(
-        line,
-        Dbref::TARGET_BEGIN,
-        Dbref::TARGET_OPENING,
-        Dbref::TARGET_END,
-        Dbref::TARGET_CLOSING,
-        name.faults,
-    );
+    let target = lex_segment(line, Dbref::TARGET, name.faults);
     let dbref = Dbref::new(
         code.value,
         chain.value,
@@ -73,17 +51,13 @@ pub fn lex_dbref(line: &[u8]) -> Got<Dbref>
 pub fn lex_dbref1(line: &[u8], mode: Mode) -> Got<Dbref1>
     ensures { result ≡ specs.got_dbref1 (in_mode mode line.now) }
 {
-    let end = Dbref1::end(mode);
     let code = text(line, Dbref::CODE, Faults::none());
     let chain = text(line, Dbref::CHAIN, code.faults);
-    let segment = lex_segment(
-        line,
-        Dbref::BEGIN,
-        Dbref::OPENING,
-        end,
-        Dbref::CLOSING,
-        chain.faults,
-    );
+    let at = SegmentAt {
+        end: Dbref1::end(mode),
+        ..Dbref::SEGMENT
+    };
+    let segment = lex_segment(line, at, chain.faults);
     let database = text(line, Dbref::DATABASE, segment.faults);
     let name = text(line, Dbref1::NAME, database.faults);
     let dbref = Dbref1::new(

@@ -28,6 +28,15 @@ impl Segment {
     }
 }
 
+// The columns of a segment.
+#[derive(Clone, Copy)]
+pub struct SegmentAt {
+    pub begin: Columns,
+    pub opening: u16,
+    pub end: Columns,
+    pub closing: u16,
+}
+
 // A DBREF.
 #[derive(Clone, Copy)]
 pub struct Dbref {
@@ -45,13 +54,12 @@ impl Dbref {
 
     pub const CHAIN: Columns = Columns { start: 12, end: 13 };
 
-    pub const BEGIN: Columns = Columns { start: 14, end: 18 };
-
-    pub const OPENING: u16 = 18;
-
-    pub const END: Columns = Columns { start: 20, end: 24 };
-
-    pub const CLOSING: u16 = 24;
+    pub const SEGMENT: SegmentAt = SegmentAt {
+        begin: Columns { start: 14, end: 18 },
+        opening: 18,
+        end: Columns { start: 20, end: 24 },
+        closing: 24,
+    };
 
     pub const DATABASE: Columns = Columns { start: 26, end: 32 };
 
@@ -59,13 +67,12 @@ impl Dbref {
 
     pub const NAME: Columns = Columns { start: 42, end: 54 };
 
-    pub const TARGET_BEGIN: Columns = Columns { start: 55, end: 60 };
-
-    pub const TARGET_OPENING: u16 = 60;
-
-    pub const TARGET_END: Columns = Columns { start: 62, end: 67 };
-
-    pub const TARGET_CLOSING: u16 = 67;
+    pub const TARGET: SegmentAt = SegmentAt {
+        begin: Columns { start: 55, end: 60 },
+        opening: 60,
+        end: Columns { start: 62, end: 67 },
+        closing: 67,
+    };
 
     pub fn new(
         code: Text,
@@ -132,7 +139,7 @@ impl Dbref1 {
     {
         match mode {
             Mode::Crate => Dbref1::END,
-            Mode::WwPdb => Dbref::END,
+            Mode::WwPdb => Dbref::SEGMENT.end,
         }
     }
 }

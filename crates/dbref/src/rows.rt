@@ -14,17 +14,17 @@ pub fn dbref_rows(dbref: Dbref) -> Rows
     Rows::of([
         Row(Dbref::CODE.start, Value::Words(dbref.code)),
         Row(Dbref::CHAIN.start, Value::Words(dbref.chain)),
-        Row(Dbref::BEGIN.start, Value::Signed(segment.begin)),
-        Row(Dbref::OPENING, Value::One(segment.opening)),
-        Row(Dbref::END.start, Value::Signed(segment.end)),
-        Row(Dbref::CLOSING, Value::One(segment.closing)),
+        Row(Dbref::SEGMENT.begin.start, Value::Signed(segment.begin)),
+        Row(Dbref::SEGMENT.opening, Value::One(segment.opening)),
+        Row(Dbref::SEGMENT.end.start, Value::Signed(segment.end)),
+        Row(Dbref::SEGMENT.closing, Value::One(segment.closing)),
         Row(Dbref::DATABASE.start, Value::Words(dbref.database)),
         Row(Dbref::ACCESSION.start, Value::Words(dbref.accession)),
         Row(Dbref::NAME.start, Value::Words(dbref.name)),
-        Row(Dbref::TARGET_BEGIN.start, Value::Signed(target.begin)),
-        Row(Dbref::TARGET_OPENING, Value::One(target.opening)),
-        Row(Dbref::TARGET_END.start, Value::Signed(target.end)),
-        Row(Dbref::TARGET_CLOSING, Value::One(target.closing)),
+        Row(Dbref::TARGET.begin.start, Value::Signed(target.begin)),
+        Row(Dbref::TARGET.opening, Value::One(target.opening)),
+        Row(Dbref::TARGET.end.start, Value::Signed(target.end)),
+        Row(Dbref::TARGET.closing, Value::One(target.closing)),
     ])
 }
 
@@ -36,10 +36,10 @@ pub fn dbref1_rows(dbref1: Dbref1) -> Rows
     Rows::of([
         Row(Dbref::CODE.start, Value::Words(dbref1.code)),
         Row(Dbref::CHAIN.start, Value::Words(dbref1.chain)),
-        Row(Dbref::BEGIN.start, Value::Signed(segment.begin)),
-        Row(Dbref::OPENING, Value::One(segment.opening)),
+        Row(Dbref::SEGMENT.begin.start, Value::Signed(segment.begin)),
+        Row(Dbref::SEGMENT.opening, Value::One(segment.opening)),
         Row(end.start, Value::Signed(segment.end)),
-        Row(Dbref::CLOSING, Value::One(segment.closing)),
+        Row(Dbref::SEGMENT.closing, Value::One(segment.closing)),
         Row(Dbref::DATABASE.start, Value::Words(dbref1.database)),
         Row(Dbref1::NAME.start, Value::Words(dbref1.name)),
     ])

@@ -15,6 +15,7 @@ use Rattle.row.specs.declared.Row.{Row}
 use Rattle.row.specs.declared.Value.{Value}
 use Rattle.row.specs.declared.Value.TheVariants.{Signed, Real, Words, One, Nothing}
 use Rattle.ssbond.specs.declared.record.Residue.{Residue}
+use Rattle.ssbond.specs.declared.record.ResidueAt.{ResidueAt}
 use Rattle.ssbond.specs.declared.record.Bond.{Bond}
 use Rattle.ssbond.specs.declared.record.SSBond.{SSBond}
 
@@ -23,20 +24,15 @@ use Rattle.ssbond.specs.declared.record.SSBond.{SSBond}
 pub data Side : Type 0 where
   first second : Side
 
+abbrev pub residue_at : Side → ResidueAt
+residue_at first = record { name = 11 ⋯ 14; chain = 15; number = 17 ⋯ 21; insertion = 21 }
+residue_at second = record { name = 25 ⋯ 28; chain = 29; number = 31 ⋯ 35; insertion = 35 }
+
 pub data Field : Type 0 where
-  name chain number insertion : Side → Field
   operator : Side → Field
   distance : Field
 
 abbrev pub at : Field → Columns
-at (name first) = 11 ⋯ 14
-at (chain first) = only 15
-at (number first) = 17 ⋯ 21
-at (insertion first) = only 21
-at (name second) = 25 ⋯ 28
-at (chain second) = only 29
-at (number second) = 31 ⋯ 35
-at (insertion second) = only 35
 at (operator first) = 59 ⋯ 65
 at (operator second) = 66 ⋯ 72
 at distance = 73 ⋯ 78
@@ -52,12 +48,16 @@ abbrev pub ssbond_table : Bool → List Entry
 ssbond_table tail =
     t (11 ⋯ 14) ∷ c (only 15) ∷ i (17 ⋯ 21) ∷ c? (only 21) ∷ t (25 ⋯ 28) ∷ c (only 29) ∷ i (31 ⋯ 35) ∷ c? (only 35) ∷ tail_table tail
 
-abbrev pub residue_of : List ℕ → Side → Residue
+-- a side's part of the table
+abbrev pub residue_table : ResidueAt → List Entry
+residue_table s = t s.name ∷ c (only s.chain) ∷ i s.number ∷ c? (only s.insertion) ∷ []
+
+abbrev pub residue_of : List ℕ → ResidueAt → Residue
 residue_of l s = record {
-  name = text_at l (at (name s));
-  chain = character_at l (at (chain s)).start;
-  number = signed_at l (at (number s));
-  insertion = optional_at l (at (insertion s)).start;
+  name = text_at l s.name;
+  chain = character_at l s.chain;
+  number = signed_at l s.number;
+  insertion = optional_at l s.insertion;
 }
 
 -- whether the distance may have an exponent is the option's
@@ -75,22 +75,14 @@ tail_of false on l = None
 
 abbrev pub ssbond_of : Bool → List ℕ → SSBond
 ssbond_of on l = record {
-  first = residue_of l first;
-  second = residue_of l second;
+  first = residue_of l (residue_at first);
+  second = residue_of l (residue_at second);
   tail = tail_of (has_tail l) on l;
 }
 
 -- one side, read from columns that are handed over
-abbrev pub got_residue : List ℕ → Columns → ℕ → Columns → ℕ → Faults → Got Residue
-got_residue l name_at chainAt number_at insertionAt fs = record {
-  value = record {
-    name = text_at l name_at;
-    chain = character_at l chainAt;
-    number = signed_at l number_at;
-    insertion = optional_at l insertionAt;
-  };
-  faults = line_noted l (t name_at ∷ c (only chainAt) ∷ i number_at ∷ c? (only insertionAt) ∷ []) fs;
-}
+abbrev pub got_residue : List ℕ → ResidueAt → Faults → Got Residue
+got_residue l s fs = record { value = residue_of l s; faults = line_noted l (residue_table s) fs }
 
 abbrev pub got_tail : Bool → List ℕ → Faults → Got (Option Bond)
 got_tail on l fs =
@@ -113,18 +105,14 @@ abbrev pub tail_length : Option Bond → Value
 tail_length (Some bond) = Real bond.length bond.places
 tail_length None = Nothing
 
-abbrev pub residue_fields : Side → Residue → List Row
+abbrev pub residue_fields : ResidueAt → Residue → List Row
 residue_fields s v =
-    (at (name s)).start is Words v.name
-    ∷ (at (chain s)).start is One v.chain
-    ∷ (at (number s)).start is Signed v.number
-    ∷ (at (insertion s)).start is One v.insertion
-    ∷ []
+    s.name.start is Words v.name ∷ s.chain is One v.chain ∷ s.number.start is Signed v.number ∷ s.insertion is One v.insertion ∷ []
 
 abbrev pub ssbond_fields : SSBond → List Row
 ssbond_fields v =
-    residue_fields first v.first
-    ++ residue_fields second v.second
+    residue_fields (residue_at first) v.first
+    ++ residue_fields (residue_at second) v.second
     ++ (at (operator first)).start is tail_first v.tail
     ∷ (at (operator second)).start is tail_second v.tail
     ∷ (at distance).start is tail_length v.tail

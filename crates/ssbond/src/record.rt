@@ -26,6 +26,15 @@ impl Residue {
     }
 }
 
+// The columns of one side.
+#[derive(Clone, Copy)]
+pub struct ResidueAt {
+    pub name: Columns,
+    pub chain: u16,
+    pub number: Columns,
+    pub insertion: u16,
+}
+
 // The symmetry operators and the bond's length. The places are those of the length: how many digits stood behind its point, 0 where it is its
 // default.
 #[derive(Clone, Copy)]
@@ -45,21 +54,19 @@ pub struct SSBond {
 }
 
 impl SSBond {
-    pub const NAME: Columns = Columns { start: 11, end: 14 };
+    pub const FIRST: ResidueAt = ResidueAt {
+        name: Columns { start: 11, end: 14 },
+        chain: 15,
+        number: Columns { start: 17, end: 21 },
+        insertion: 21,
+    };
 
-    pub const CHAIN: u16 = 15;
-
-    pub const NUMBER: Columns = Columns { start: 17, end: 21 };
-
-    pub const INSERTION: u16 = 21;
-
-    pub const OTHER_NAME: Columns = Columns { start: 25, end: 28 };
-
-    pub const OTHER_CHAIN: u16 = 29;
-
-    pub const OTHER_NUMBER: Columns = Columns { start: 31, end: 35 };
-
-    pub const OTHER_INSERTION: u16 = 35;
+    pub const SECOND: ResidueAt = ResidueAt {
+        name: Columns { start: 25, end: 28 },
+        chain: 29,
+        number: Columns { start: 31, end: 35 },
+        insertion: 35,
+    };
 
     pub const OPERATOR: Columns = Columns { start: 59, end: 65 };
 

@@ -16,14 +16,14 @@ pub fn ssbond_rows(ssbond: SSBond) -> Rows
     let other_operator = tail.map_or(Value::Nothing, |bond| Value::Words(bond.second));
     let length = tail.map_or(Value::Nothing, |bond| Value::Real(bond.length, bond.places));
     Rows::of([
-        Row(SSBond::NAME.start, Value::Words(first.name)),
-        Row(SSBond::CHAIN, Value::One(first.chain)),
-        Row(SSBond::NUMBER.start, Value::Signed(first.number)),
-        Row(SSBond::INSERTION, Value::One(first.insertion)),
-        Row(SSBond::OTHER_NAME.start, Value::Words(second.name)),
-        Row(SSBond::OTHER_CHAIN, Value::One(second.chain)),
-        Row(SSBond::OTHER_NUMBER.start, Value::Signed(second.number)),
-        Row(SSBond::OTHER_INSERTION, Value::One(second.insertion)),
+        Row(SSBond::FIRST.name.start, Value::Words(first.name)),
+        Row(SSBond::FIRST.chain, Value::One(first.chain)),
+        Row(SSBond::FIRST.number.start, Value::Signed(first.number)),
+        Row(SSBond::FIRST.insertion, Value::One(first.insertion)),
+        Row(SSBond::SECOND.name.start, Value::Words(second.name)),
+        Row(SSBond::SECOND.chain, Value::One(second.chain)),
+        Row(SSBond::SECOND.number.start, Value::Signed(second.number)),
+        Row(SSBond::SECOND.insertion, Value::One(second.insertion)),
         Row(SSBond::OPERATOR.start, operator),
         Row(SSBond::OTHER_OPERATOR.start, other_operator),
         Row(SSBond::LENGTH.start, length),
