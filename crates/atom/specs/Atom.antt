@@ -1,7 +1,7 @@
 -- "ATOM, HETATM: U 6..11, T 12..16, C 16, T 17..20, C 21, I 22..26, C 26, R 30..38 38..46 46..54 54..60 60..66, T 72..76 76..78, charge
 -- 78..80. ANISOU: as ATOM, but for the R: I 28..35 35..42 42..49 49..56 56..63 63..70, each made a double and divided by 10000.0."
 -- "Faults stand in ascending columns, except that ATOM puts 30..66 and ANISOU 28..70 first."
-use Rattle.std.specs.Prelude.{ℕ, ◌≡◌, Bool, true, false, List, [], ◌∷◌, ◌++◌}
+use Rattle.std.specs.Prelude.{ℕ, ◌≡◌, Bool, true, false, List, [], ◌∷◌, ◌++◌, Option, IfSome}
 use Rattle.field.specs.Charge.{charge_at}
 use Rattle.field.specs.Number.{unsigned_at, signed_at, real_at, places_at, factor_at, zero_real, one_real}
 use Rattle.field.specs.Table.{Entry, line_fine, table_noted}
@@ -11,6 +11,7 @@ use Rattle.line.specs.Columns.{◌⋯◌, only}
 use Rattle.line.specs.Faults.{no_faults}
 use Rattle.line.specs.Given.{Given}
 use Rattle.line.specs.declared.columns.Columns.{Columns}
+use Rattle.line.specs.declared.fault.Got.{Got}
 use Rattle.row.specs.Rows.{◌is◌}
 use Rattle.row.specs.declared.Row.{Row}
 use Rattle.row.specs.declared.Value.TheVariants.{Unsigned, Signed, Real, Factor, Words, One}
@@ -20,11 +21,7 @@ use Rattle.atom.specs.declared.record.PositionPlaces.{PositionPlaces}
 use Rattle.atom.specs.declared.record.Atom.{Atom}
 use Rattle.atom.specs.declared.record.Factors.{Factors}
 use Rattle.atom.specs.declared.record.Anisou.{Anisou}
-use Rattle.atom.specs.declared.read.FineBasics.{FineBasics}
-use Rattle.atom.specs.declared.read.FinePosition.{FinePosition}
-use Rattle.atom.specs.declared.read.FineAtom.{FineAtom}
-use Rattle.atom.specs.declared.read.GotAtom.{GotAtom}
-use Rattle.atom.specs.declared.read.GotAnisou.{GotAnisou}
+use Rattle.atom.specs.declared.read.Placed.{Placed}
 
 -- the columns by name, for the records and their rows; the tables have them in numbers
 pub data Field : Type 0 where
@@ -96,6 +93,9 @@ position_of on l = record { x = real_at on l (at x) zero_real; y = real_at on l 
 abbrev pub position_places_of : Bool → List ℕ → PositionPlaces
 position_places_of on l = record { x = places_at on l (at x); y = places_at on l (at y); z = places_at on l (at z) }
 
+abbrev pub placed_of : Bool → List ℕ → Placed
+placed_of on l = record { position = position_of on l; places = position_places_of on l }
+
 abbrev pub atom_of : Bool → Bool → List ℕ → Atom
 atom_of hetero on l = record {
   hetero = hetero;
@@ -124,24 +124,21 @@ abbrev pub anisou_of : List ℕ → Anisou
 anisou_of l = record { basics = basics_of l; factors = factors_of l }
 
 -- ---- what the readers answer
-abbrev pub got_atom : Bool → Given → GotAtom
+abbrev pub got_atom : Bool → Given → Got Atom
 got_atom hetero g = record { value = atom_of hetero g.options.exponents g.line; faults = table_noted g atom_table no_faults }
 
-abbrev pub got_anisou : Given → GotAnisou
+abbrev pub got_anisou : Given → Got Anisou
 got_anisou g = record { value = anisou_of g.line; faults = table_noted g anisou_table no_faults }
 
--- what was read without a list, and without exponents, is the line's, if all of it is fine
-abbrev pub SaysBasics : List ℕ → FineBasics → Type 0
-SaysBasics l got = got.fine ≡ true → (got.value ≡ basics_of l) × (line_fine l basics_table ≡ true)
+-- what was read without a list, and without exponents, is the line's, and all of it is fine
+abbrev pub SaysBasics : List ℕ → Option Basics → Type 0
+SaysBasics l got = IfSome got (λ v. (v ≡ basics_of l) × (line_fine l basics_table ≡ true))
 
--- a position's doubles are the line's in any case
-pub record SaysPosition (l : List ℕ) (got : FinePosition) : Type 0 where
-  pub value : got.value ≡ position_of false l
-  pub fine : got.fine ≡ line_fine l position_table
-  pub places : got.fine ≡ true → got.places ≡ position_places_of false l
+abbrev pub SaysPosition : List ℕ → Option Placed → Type 0
+SaysPosition l got = IfSome got (λ v. (v ≡ placed_of false l) × (line_fine l position_table ≡ true))
 
-abbrev pub SaysAtom : Bool → List ℕ → FineAtom → Type 0
-SaysAtom hetero l got = got.fine ≡ true → (got.value ≡ atom_of hetero false l) × (line_fine l atom_table ≡ true)
+abbrev pub SaysAtom : Bool → List ℕ → Option Atom → Type 0
+SaysAtom hetero l got = IfSome got (λ v. (v ≡ atom_of hetero false l) × (line_fine l atom_table ≡ true))
 
 -- ---- the rows, ascending; what the kinds share stands before and behind the reals
 abbrev pub basics_fields : Basics → List Row → List Row

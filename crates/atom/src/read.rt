@@ -2,7 +2,7 @@
 // Nearly every line of a file is an atom without a fault, so an atom is read without a list of faults first. Only if a field
 // isn't fine is it read again, with the list going through, and with exponents where they are asked for.
 ghost use Rattle.std.specs.Prelude.{◌≡◌, false};
-ghost use Rattle.field.specs.Number.{fine_unsigned, fine_signed};
+ghost use Rattle.field.specs.Number.{fine_unsigned, fine_signed, fine_real};
 ghost use Rattle.field.specs.Table.{line_noted, table_noted};
 ghost use Rattle.line.specs.Given.{alone, taking};
 ghost use Rattle.atom.specs.Atom.Field.{serial, number};
@@ -10,67 +10,58 @@ ghost use Rattle.atom.specs.Atom as specs;
 
 use crate::record::{Anisou, Atom, AtomPlaces, Basics, Factors, Position, PositionPlaces};
 use field::charge::{charge, fine_charge};
-use field::number_field::{FineSigned, FineUnsigned, factor, real, signed, unsigned};
-use field::quick::{fine_five, fine_four, fine_hundredths, fine_thousandths};
+use field::number_field::{factor, fine_real, fine_signed, fine_unsigned, real, signed, unsigned};
+use field::quick::{signed_four, unsigned_five};
 use field::text_field::{character, fine_character, fine_optional, fine_text, optional, text};
-use line::fault::Faults;
-use line::text::{Character, Text};
+use line::columns::Columns;
+use line::fault::{Faults, Got};
 use number::word::{eight, five, four, read_word, six};
+use real::{Real, hundredths, thousandths};
 
-// What was read, and whether all of its fields are fine.
+// Three coordinates, with the places of each.
 #[derive(Clone, Copy)]
-pub struct FineBasics {
-    pub value: Basics,
-    pub fine: bool,
-}
-
-#[derive(Clone, Copy)]
-pub struct FinePosition {
-    pub value: Position,
+pub struct Placed {
+    pub position: Position,
     pub places: PositionPlaces,
-    pub fine: bool,
 }
 
-#[derive(Clone, Copy)]
-pub struct FineAtom {
-    pub value: Atom,
-    pub fine: bool,
+// The coordinates that three reals are.
+fn placed_of(x: Real, y: Real, z: Real) -> Placed
+    ensures { result ≡ record { position = record { x = x.value; y = y.value; z = z.value }; places = record { x = x.places; y = y.places; z = z.places } } }
+{
+    Placed {
+        position: Position::new(x.value, y.value, z.value),
+        places: PositionPlaces {
+            x: x.places,
+            y: y.places,
+            z: z.places,
+        },
+    }
 }
 
-// What was read, beside the list with the faults of its fields.
-#[derive(Clone, Copy)]
-pub struct GotBasics {
-    pub value: Basics,
-    pub faults: Faults,
-}
-
-#[derive(Clone, Copy)]
-pub struct GotAtom {
-    pub value: Atom,
-    pub faults: Faults,
-}
-
-#[derive(Clone, Copy)]
-pub struct GotAnisou {
-    pub value: Anisou,
-    pub faults: Faults,
-}
-
-#[derive(Clone, Copy)]
-pub struct GotPosition {
-    pub value: Position,
-    pub places: PositionPlaces,
-    pub faults: Faults,
-}
-
-#[derive(Clone, Copy)]
-pub struct GotFactors {
-    pub value: Factors,
-    pub faults: Faults,
+// The atom of its parts.
+fn atom_of(hetero: bool, basics: Basics, placed: Placed, occupancy: Real, bfactor: Real) -> Atom
+    ensures { result ≡ record { hetero = hetero; basics = basics; position = placed.position; occupancy = occupancy.value; bfactor = bfactor.value; places = record { position = placed.places; occupancy = occupancy.places; bfactor = bfactor.places } } }
+{
+    let position = placed.position;
+    let coordinates = placed.places;
+    let places = AtomPlaces {
+        position: coordinates,
+        occupancy: occupancy.places,
+        bfactor: bfactor.places,
+    };
+    Atom::new(
+        hetero,
+        basics,
+        position,
+        occupancy.value,
+        bfactor.value,
+        places,
+    )
 }
 
 // What ATOM, HETATM and ANISOU share.
-fn lex_atom_basics(line: &[u8], faults: Faults) -> GotBasics
+fn lex_atom_basics(line: &[u8], faults: Faults) -> Got<Basics>
     ensures { result ≡ record { value = specs.basics_of line.now; faults = line_noted line.now specs.basics_table faults } }
 {
     let serial = unsigned(line, Basics::SERIAL, faults);
@@ -98,32 +89,26 @@ fn lex_atom_basics(line: &[u8], faults: Faults) -> GotBasics
         element.value,
         charge.value,
     );
-    let faults = charge.faults;
-    GotBasics { value, faults }
+    Got {
+        value,
+        faults: charge.faults,
+    }
 }
 
-fn lex_position(line: &[u8], exponents: bool, faults: Faults) -> GotPosition
-    ensures { result ≡ record { value = specs.position_of exponents line.now; places = specs.position_places_of exponents line.now; faults = table_noted (taking exponents line.now) specs.position_table faults } }
+fn lex_position(line: &[u8], exponents: bool, faults: Faults) -> Got<Placed>
+    ensures { result ≡ record { value = specs.placed_of exponents line.now; faults = table_noted (taking exponents line.now) specs.position_table faults } }
 {
     let x = real(line, Position::X, 0.0, exponents, faults);
     let y = real(line, Position::Y, 0.0, exponents, x.faults);
     let z = real(line, Position::Z, 0.0, exponents, y.faults);
-    let value = Position::new(x.value, y.value, z.value);
-    let places = PositionPlaces {
-        x: x.places,
-        y: y.places,
-        z: z.places,
-    };
-    let faults = z.faults;
-    GotPosition {
-        value,
-        places,
-        faults,
+    Got {
+        value: placed_of(x.value, y.value, z.value),
+        faults: z.faults,
     }
 }
 
 // An atom, with the list going through.
-fn lex_atom_noted(line: &[u8], hetero: bool, exponents: bool) -> GotAtom
+fn lex_atom_noted(line: &[u8], hetero: bool, exponents: bool) -> Got<Atom>
     ensures { result ≡ specs.got_atom hetero (taking exponents line.now) }
 {
     let position = lex_position(line, exponents, Faults::none());
@@ -136,186 +121,109 @@ fn lex_atom_noted(line: &[u8], hetero: bool, exponents: bool) -> GotAtom
     );
     let bfactor = real(line, Atom::BFACTOR, 0.0, exponents, occupancy.faults);
     let basics = lex_atom_basics(line, bfactor.faults);
-    let coordinates = position.places;
-    let places = AtomPlaces {
-        position: coordinates,
-        occupancy: occupancy.places,
-        bfactor: bfactor.places,
-    };
-    let value = Atom::new(
-        hetero,
-        basics.value,
-        position.value,
-        occupancy.value,
-        bfactor.value,
-        places,
-    );
-    let faults = basics.faults;
-    GotAtom { value, faults }
-}
-
-// Nothing that was read.
-fn no_basics() -> FineBasics
-    ensures { result.fine ≡ false }
-{
-    let empty = Text::new(0, 0);
-    let absent = Character::Absent;
-    FineBasics {
-        value: Basics::new(0, empty, absent, empty, absent, 0, absent, empty, empty, 0),
-        fine: false,
-    }
-}
-
-fn quick_serial(line: &[u8]) -> FineUnsigned
-    ensures { result ≡ fine_unsigned line.now (specs.at serial) }
-{
-    fine_five(
-        read_word(five(Basics::SERIAL.part(line))),
-        line,
-        Basics::SERIAL,
-    )
-}
-
-fn quick_number(line: &[u8]) -> FineSigned
-    ensures { result ≡ fine_signed line.now (specs.at number) }
-{
-    fine_four(
-        read_word(four(Basics::NUMBER.part(line))),
-        line,
-        Basics::NUMBER,
-    )
-}
-
-// What the kinds share, of a line that reaches past the element: the one test spares each field its own.
-fn quick_basics(line: &[u8]) -> FineBasics
-    ensures { specs.SaysBasics line.now result }
-{
-    if line.len() < Basics::ELEMENT.end as usize {
-        return no_basics();
-    }
-    let serial = quick_serial(line);
-    let name = fine_text(line, Basics::NAME);
-    let alternate = fine_optional(line, Basics::ALTERNATE);
-    let residue = fine_text(line, Basics::RESIDUE);
-    let chain = fine_character(line, Basics::CHAIN);
-    let number = quick_number(line);
-    let insertion = fine_optional(line, Basics::INSERTION);
-    let segment = fine_text(line, Basics::SEGMENT);
-    let element = fine_text(line, Basics::ELEMENT);
-    let charge = fine_charge(line, Basics::CHARGE);
-    let location = alternate.value;
-    let of = chain.value;
-    let inserted = insertion.value;
-    let value = Basics::new(
-        serial.value,
-        name.value,
-        location,
-        residue.value,
-        of,
-        number.value,
-        inserted,
-        segment.value,
-        element.value,
-        charge.value,
-    );
-    let last = segment.fine & (element.fine & charge.fine);
-    let middle = chain.fine & (number.fine & (insertion.fine & last));
-    FineBasics {
-        value,
-        fine: serial.fine & (name.fine & (alternate.fine & (residue.fine & middle))),
-    }
-}
-
-fn quick_position(line: &[u8]) -> FinePosition
-    ensures { specs.SaysPosition line.now result }
-{
-    let x = fine_thousandths(
-        read_word(eight(Position::X.part(line))),
-        line,
-        Position::X,
-        0.0,
-    );
-    let y = fine_thousandths(
-        read_word(eight(Position::Y.part(line))),
-        line,
-        Position::Y,
-        0.0,
-    );
-    let z = fine_thousandths(
-        read_word(eight(Position::Z.part(line))),
-        line,
-        Position::Z,
-        0.0,
-    );
-    FinePosition {
-        value: Position::new(x.value, y.value, z.value),
-        places: PositionPlaces {
-            x: x.places,
-            y: y.places,
-            z: z.places,
-        },
-        fine: x.is_fine() & (y.is_fine() & z.is_fine()),
-    }
-}
-
-fn quick_atom(line: &[u8], hetero: bool) -> FineAtom
-    ensures { specs.SaysAtom hetero line.now result }
-{
-    let position = quick_position(line);
-    let occupancy = fine_hundredths(
-        read_word(six(Atom::OCCUPANCY.part(line))),
-        line,
-        Atom::OCCUPANCY,
-        Atom::OCCUPANCY_DEFAULT,
-    );
-    let bfactor = fine_hundredths(
-        read_word(six(Atom::BFACTOR.part(line))),
-        line,
-        Atom::BFACTOR,
-        0.0,
-    );
-    let basics = quick_basics(line);
-    let coordinates = position.places;
-    let places = AtomPlaces {
-        position: coordinates,
-        occupancy: occupancy.places,
-        bfactor: bfactor.places,
-    };
-    FineAtom {
-        value: Atom::new(
+    Got {
+        value: atom_of(
             hetero,
             basics.value,
             position.value,
             occupancy.value,
             bfactor.value,
-            places,
         ),
-        fine: position.fine & (occupancy.is_fine() & (bfactor.is_fine() & basics.fine)),
+        faults: basics.faults,
     }
+}
+
+fn quick_serial(line: &[u8]) -> Option<u64>
+    ensures { result ≡ fine_unsigned line.now (specs.at serial) }
+{
+    unsigned_five(read_word(five(Basics::SERIAL.part(line)))).or_else(|| fine_unsigned(
+        line,
+        Basics::SERIAL,
+    ))
+}
+
+fn quick_number(line: &[u8]) -> Option<i64>
+    ensures { result ≡ fine_signed line.now (specs.at number) }
+{
+    signed_four(read_word(four(Basics::NUMBER.part(line)))).or_else(|| fine_signed(
+        line,
+        Basics::NUMBER,
+    ))
+}
+
+// A coordinate, which has eight columns and three digits behind its point in nearly every line.
+fn quick_coordinate(line: &[u8], at: Columns) -> Option<Real>
+    ensures { result ≡ fine_real false line.now at }
+{
+    thousandths(read_word(eight(at.part(line)))).or_else(|| fine_real(line, at))
+}
+
+// An occupancy or a temperature factor, which has six and two.
+fn quick_share(line: &[u8], at: Columns) -> Option<Real>
+    ensures { result ≡ fine_real false line.now at }
+{
+    hundredths(read_word(six(at.part(line)))).or_else(|| fine_real(line, at))
+}
+
+// What the kinds share, of a line that reaches past the element: the one test spares each field its own.
+fn quick_basics(line: &[u8]) -> Option<Basics>
+    ensures { specs.SaysBasics line.now result }
+{
+    if line.len() < Basics::ELEMENT.end as usize {
+        return None;
+    }
+    let serial = quick_serial(line)?;
+    let name = fine_text(line, Basics::NAME)?;
+    let alternate = fine_optional(line, Basics::ALTERNATE)?;
+    let residue = fine_text(line, Basics::RESIDUE)?;
+    let chain = fine_character(line, Basics::CHAIN)?;
+    let number = quick_number(line)?;
+    let insertion = fine_optional(line, Basics::INSERTION)?;
+    let segment = fine_text(line, Basics::SEGMENT)?;
+    let element = fine_text(line, Basics::ELEMENT)?;
+    let charge = fine_charge(line, Basics::CHARGE)?;
+    Some(Basics::new(
+        serial, name, alternate, residue, chain, number, insertion, segment, element, charge,
+    ))
+}
+
+fn quick_position(line: &[u8]) -> Option<Placed>
+    ensures { specs.SaysPosition line.now result }
+{
+    let x = quick_coordinate(line, Position::X)?;
+    let y = quick_coordinate(line, Position::Y)?;
+    let z = quick_coordinate(line, Position::Z)?;
+    Some(placed_of(x, y, z))
+}
+
+fn quick_atom(line: &[u8], hetero: bool) -> Option<Atom>
+    ensures { specs.SaysAtom hetero line.now result }
+{
+    let placed = quick_position(line)?;
+    let occupancy = quick_share(line, Atom::OCCUPANCY)?;
+    let bfactor = quick_share(line, Atom::BFACTOR)?;
+    let basics = quick_basics(line)?;
+    Some(atom_of(hetero, basics, placed, occupancy, bfactor))
 }
 
 // A line that ends before the element has faults, and isn't read twice. A plain decimal is the same with exponents and without, so the same quick
 // reading serves both.
-pub fn lex_atom(line: &[u8], hetero: bool, exponents: bool) -> GotAtom
+pub fn lex_atom(line: &[u8], hetero: bool, exponents: bool) -> Got<Atom>
     ensures { result ≡ specs.got_atom hetero (taking exponents line.now) }
 {
     if line.len() < Basics::ELEMENT.end as usize {
-        let noted = lex_atom_noted(line, hetero, exponents);
-        return noted;
+        return lex_atom_noted(line, hetero, exponents);
     }
-    let quick = quick_atom(line, hetero);
-    if quick.fine {
-        let value = quick.value;
-        return GotAtom {
+    match quick_atom(line, hetero) {
+        Some(value) => Got {
             value,
             faults: Faults::none(),
-        };
+        },
+        None => lex_atom_noted(line, hetero, exponents),
     }
-    let noted = lex_atom_noted(line, hetero, exponents);
-    noted
 }
 
-fn lex_factors(line: &[u8], faults: Faults) -> GotFactors
+fn lex_factors(line: &[u8], faults: Faults) -> Got<Factors>
     ensures { result ≡ record { value = specs.factors_of line.now; faults = line_noted line.now specs.factors_table faults } }
 {
     let u11 = factor(line, Factors::U11, faults);
@@ -324,19 +232,21 @@ fn lex_factors(line: &[u8], faults: Faults) -> GotFactors
     let u12 = factor(line, Factors::U12, u33.faults);
     let u13 = factor(line, Factors::U13, u12.faults);
     let u23 = factor(line, Factors::U23, u13.faults);
-    let value = Factors::new(
-        u11.value, u22.value, u33.value, u12.value, u13.value, u23.value,
-    );
-    let faults = u23.faults;
-    GotFactors { value, faults }
+    Got {
+        value: Factors::new(
+            u11.value, u22.value, u33.value, u12.value, u13.value, u23.value,
+        ),
+        faults: u23.faults,
+    }
 }
 
-pub fn lex_anisou(line: &[u8]) -> GotAnisou
+pub fn lex_anisou(line: &[u8]) -> Got<Anisou>
     ensures { result ≡ specs.got_anisou (alone line.now) }
 {
     let factors = lex_factors(line, Faults::none());
     let basics = lex_atom_basics(line, factors.faults);
-    let value = Anisou::new(basics.value, factors.value);
-    let faults = basics.faults;
-    GotAnisou { value, faults }
+    Got {
+        value: Anisou::new(basics.value, factors.value),
+        faults: basics.faults,
+    }
 }

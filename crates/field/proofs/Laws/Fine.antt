@@ -6,12 +6,12 @@
 --     places-few, unread-none                 a real has nine places at most, and none where it isn't fine
 --     charge-fine                             a charge is fine if it is a digit and a sign
 --     charge-one, charge-two                  a charge that isn't has one fault, and both its columns are there
---     all-fine                                a table of fine fields notes nothing
+--     all-fine, fine-append                   a table of fine fields notes nothing, nor do two
 -- Assumes nothing.
 use Prim.Native.Nat.{ℕ, ◌+◌, ◌≤◌}
 use mathlib.Core.Path.{◌≡◌, refl, ap, ◌∙◌}
 use mathlib.Core.Bool.{Bool, true, false, cond, not, ◌&&◌}
-use mathlib.Core.List.{List, [], ◌∷◌}
+use mathlib.Core.List.{List, [], ◌∷◌, ◌++◌}
 use native.Mathlib.Omega.{arith}
 use borrow.Author.Tests.{eqb-true}
 use Rattle.std.specs.Prelude.{Option, Some, None, is_some, unwrap_or}
@@ -21,7 +21,7 @@ use lib.Ieee.{Float}
 use lib.IntN.{ℤ, pos}
 use Rattle.number.specs.Whole.{digit, unsigned_of, signed_of}
 use Rattle.number.specs.Trim.{span_of, trimmed, end_trimmed, leading, kept}
-use Rattle.number.proofs.Laws.Choice.{and_left, and_right}
+use Rattle.number.proofs.Laws.Choice.{and_left, and_right, and_assoc}
 use Rattle.real.specs.Real.{real, ten_thousandths_of}
 use Rattle.real.specs.Wide.{real_with}
 use Rattle.real.specs.declared.Real.{Real}
@@ -276,3 +276,8 @@ all-fine g [] fs e = refl
 all-fine g (h ∷ es) fs e =
     rw (fine-none (faults_by g h) (and_left (is_fine (faults_by g h)) (all_fine g es) e))
     (all-fine g es fs (and_right (is_fine (faults_by g h)) (all_fine g es) e))
+
+-- and one behind another is fine if both are
+pub fine-append : (g : Given) (a b : List Entry) → all_fine g (a ++ b) ≡ all_fine g a && all_fine g b
+fine-append g [] b = refl
+fine-append g (e ∷ a) b = rw (fine-append g a b) (and_assoc (is_fine (faults_by g e)) (all_fine g a) (all_fine g b))

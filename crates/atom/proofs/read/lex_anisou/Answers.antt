@@ -8,5 +8,5 @@ returns c =
       c.none.ensures,
       c.lex_factors-factors.ensures,
       c.lex_atom_basics-basics.ensures,
-      c.new-value.ensures,
+      c.new.ensures,
     )

@@ -7,7 +7,8 @@ use mathlib.Core.Bool.{Bool, true, false, ◌&&◌}
 use mathlib.Core.List.{List}
 use Rattle.number.proofs.Laws.Choice.{and_left, and_right}
 use Rattle.line.specs.Faults.{no_faults}
-use Rattle.field.specs.Number.{is_fine, real_faults, zero_real, one_real}
+use Rattle.field.specs.Found.{is_fine}
+use Rattle.field.specs.Number.{real_faults, zero_real, one_real}
 use Rattle.field.specs.Table.{line_fine}
 use Rattle.field.proofs.Laws.Either.{value-either, table-either}
 use Rattle.field.proofs.Laws.Fine.{all-fine}
@@ -35,10 +36,10 @@ atom-either hetero on l e =
     let (b1, b2) = value-either l (at Field.bfactor) (and_left b others behind-o) on zero_real in
     rw (x1, x2, y1, y2, z1, z2, o1, o2, b1, b2) refl
 
-pub returns-then-quick : goal.returns-then-quick
-returns-then-quick c =
+pub returns-in-Some : goal.returns-in-Some
+returns-in-Some c =
     let a = c.args in
     let l = a.line.now in
     let on = a.exponents in
-    let got = c.quick_atom-quick.ensures c.if-quick.true in
+    let got = rw c.in-Some.is at c.quick_atom.ensures in
     rw (c.none.ensures, got.0, atom-either a.hetero on l got.1, all-fine (taking on l) atom_table no_faults (table-either l on atom_table got.1)) refl

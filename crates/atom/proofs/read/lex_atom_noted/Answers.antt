@@ -23,5 +23,5 @@ returns c =
       share,
       factor,
       c.lex_atom_basics-basics.ensures,
-      c.new-value.ensures,
+      c.atom_of.ensures,
     )

@@ -11,5 +11,5 @@ returns c =
       c.factor-u12.ensures,
       c.factor-u13.ensures,
       c.factor-u23.ensures,
-      c.new-value.ensures,
+      c.new.ensures,
     )

@@ -10,5 +10,5 @@ returns c =
       c.real-x.ensures,
       c.real-y.ensures,
       c.real-z.ensures,
-      c.new-value.ensures,
+      c.placed_of.ensures,
     )
