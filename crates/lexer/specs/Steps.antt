@@ -1,6 +1,6 @@
 -- The words of the helpers, which take the refusals in the code's own steps. No rule of 01 is here: `lex_line` is proved to answer `lexed`, and so
 -- for the other entries.
-use Rattle.std.specs.Prelude.{ℕ, ◌-◌, Bool, cond, not, ◌&&◌, List, [], ◌∷◌, length, ltb, leb, eqb, Ok, Err}
+use Rattle.std.specs.Prelude.{ℕ, ◌-◌, Bool, cond, not, ◌&&◌, List, [], ◌∷◌, length, ltb, leb, Result, Ok, Err}
 use Rattle.number.specs.Trim.{kept}
 use Rattle.kind.specs.declared.Kind.{Kind}
 use Rattle.line.specs.Given.{Given}
@@ -22,32 +22,33 @@ unfoldable pub highest : ℕ → List ℕ → ℕ
 highest m [] = m
 highest m (b ∷ t) = highest (cond (ltb m b) b m) t
 
--- a number of 0 says that there is none
-abbrev pub no_refusal : Refusal
-no_refusal = refusal 0 0 0
+-- what is left of some tests: the refusal of the first that holds, if one does
+abbrev pub passed : List Test → Result (Unit {0}) Refusal
+passed ts = first_of Err ts (Ok tt)
 
--- the first of some tests that holds
-abbrev pub first_refusal : List Test → Refusal
-first_refusal ts = first_of (λ r. r) ts no_refusal
+-- what is made of that refusal, or else
+abbrev pub after : {A : Type 0} → Result (Unit {0}) Refusal → (Refusal → A) → A → A
+after (Ok none) refuse else = else
+after (Err r) refuse else = refuse r
 
 -- what is tested before the kind, for who asks for a record
 abbrev pub entry_tests : List ℕ → List ℕ → List Test
 entry_tests l remarks = table_test its_record remarks ∷ line_tests l
 
-unfoldable pub header_refusal : List ℕ → Refusal
-header_refusal l = cond (ltb (length l) 66) (refusal 4 11 (length l - 11)) no_refusal
+unfoldable pub header_test : List ℕ → Result (Unit {0}) Refusal
+header_test l = cond (ltb (length l) 66) (Err (refusal 4 11 (length l - 11))) (Ok tt)
 
-unfoldable pub remark_refusal : List ℕ → Bool → Refusal
-remark_refusal l loose = cond (ltb 11 (length l) && leb 80 (kept l) && not loose) (refusal 5 80 (length l - 80)) no_refusal
+unfoldable pub remark_test : List ℕ → Bool → Result (Unit {0}) Refusal
+remark_test l loose = cond (ltb 11 (length l) && leb 80 (kept l) && not loose) (Err (refusal 5 80 (length l - 80))) (Ok tt)
 
-unfoldable pub least_refusal : ℕ → List ℕ → Refusal
-least_refusal n l = cond (ltb (length l) n) (refusal 6 (length l) (n - length l)) no_refusal
+unfoldable pub least_test : ℕ → List ℕ → Result (Unit {0}) Refusal
+least_test n l = cond (ltb (length l) n) (Err (refusal 6 (length l) (n - length l))) (Ok tt)
 
-abbrev pub own_refusal : Bound → List ℕ → Bool → Refusal
-own_refusal bound.Header l loose = header_refusal l
-own_refusal bound.Remark l loose = remark_refusal l loose
-own_refusal (bound.Least n) l loose = least_refusal n l
-own_refusal bound.Free l loose = no_refusal
+abbrev pub own_test : Bound → List ℕ → Bool → Result (Unit {0}) Refusal
+own_test bound.Header l loose = header_test l
+own_test bound.Remark l loose = remark_test l loose
+own_test (bound.Least n) l loose = least_test n l
+own_test bound.Free l loose = Ok tt
 
 abbrev pub refused_with : ℕ → Refusal → Answer
 refused_with line r = record { line = line; outcome = Err r; faults = no_line_faults }
@@ -57,5 +58,4 @@ answer_of line k x = record { line = line; outcome = Ok x.value; faults = stampe
 
 unfoldable pub read_as : ℕ → Kind → Given → Answer
 read_as line k g =
-    let own = own_refusal (bound_of k) g.line g.options.loose in
-    cond (eqb own.number 0) (answer_of line k (got_item k g)) (refused_with line own)
+    after (own_test (bound_of k) g.line g.options.loose) (refused_with line) (answer_of line k (got_item k g))

@@ -12,53 +12,44 @@ use remark::record::Remark;
 // The place that a cut HEADER's refusal names.
 const HEADER_PLACE: usize = 11;
 
-fn header_refusal(line: &[u8]) -> Refusal
-    ensures { result ≡ steps.header_refusal line.now }
+fn test_header(line: &[u8]) -> Result<(), Refusal>
+    ensures { result ≡ steps.header_test line.now }
 {
     let n = line.len();
     if Header::CODE.end as usize <= n {
-        return Refusal::new(0, 0, 0);
+        return Ok(());
     }
-    if n < HEADER_PLACE {
-        return Refusal::new(4, HEADER_PLACE, 0);
-    }
-    Refusal::new(4, HEADER_PLACE, n - HEADER_PLACE)
+    Err(Refusal::new(4, HEADER_PLACE, n.saturating_sub(HEADER_PLACE)))
 }
 
-fn remark_refusal(line: &[u8], loose: bool) -> Refusal
-    ensures { result ≡ steps.remark_refusal line.now loose }
+fn test_remark(line: &[u8], loose: bool) -> Result<(), Refusal>
+    ensures { result ≡ steps.remark_test line.now loose }
 {
     let n = line.len();
-    if loose {
-        return Refusal::new(0, 0, 0);
+    if loose || n <= Remark::TEXT as usize || kept_length(line) < Remark::LIMIT {
+        return Ok(());
     }
-    if n <= Remark::TEXT as usize {
-        return Refusal::new(0, 0, 0);
-    }
-    if kept_length(line) < Remark::LIMIT {
-        return Refusal::new(0, 0, 0);
-    }
-    Refusal::new(5, Remark::LIMIT, n - Remark::LIMIT)
+    Err(Refusal::new(5, Remark::LIMIT, n - Remark::LIMIT))
 }
 
-fn least_refusal(least: usize, line: &[u8]) -> Refusal
-    ensures { result ≡ steps.least_refusal least line.now }
+fn test_least(least: usize, line: &[u8]) -> Result<(), Refusal>
+    ensures { result ≡ steps.least_test least line.now }
 {
     let n = line.len();
     if n < least {
-        return Refusal::new(6, n, least - n);
+        return Err(Refusal::new(6, n, least - n));
     }
-    Refusal::new(0, 0, 0)
+    Ok(())
 }
 
-// The refusal of a line by its kind's bound, its number 0 where there is none.
-pub fn own_refusal(bound: Bound, line: &[u8], loose: bool) -> Refusal
-    ensures { result ≡ steps.own_refusal bound line.now loose }
+// The refusals 4 to 6, by what the line's kind asks of it.
+pub fn test_own(bound: Bound, line: &[u8], loose: bool) -> Result<(), Refusal>
+    ensures { result ≡ steps.own_test bound line.now loose }
 {
     match bound {
-        Bound::Header => header_refusal(line),
-        Bound::Remark => remark_refusal(line, loose),
-        Bound::Least(least) => least_refusal(least, line),
-        Bound::Free => Refusal::new(0, 0, 0),
+        Bound::Header => test_header(line),
+        Bound::Remark => test_remark(line, loose),
+        Bound::Least(least) => test_least(least, line),
+        Bound::Free => Ok(()),
     }
 }

@@ -10,7 +10,7 @@ ghost use Rattle.lexitem.specs.Read.{got_item};
 
 mod bound;
 
-use crate::bound::own_refusal;
+use crate::bound::test_own;
 use atom::read::lex_atom;
 use kind::numbered::number_of;
 use kind::{Kind, kind_of};
@@ -25,13 +25,10 @@ fn highest(line: &[u8]) -> u8
     ensures { result ≡ steps.highest 0 line.now }
 {
     let mut most = 0;
-    let mut i = 0;
-    while i < line.len() {
-        let b = line[i];
-        if most < b {
-            most = b;
+    for b in line {
+        if most < *b {
+            most = *b;
         }
-        i += 1;
     }
     most
 }
@@ -40,15 +37,7 @@ fn highest(line: &[u8]) -> u8
 fn first_high(line: &[u8]) -> usize
     ensures { result ≡ specs.plain line.now }
 {
-    let mut i = 0;
-    while i < line.len() {
-        if line[i] < 128 {
-            i += 1;
-        } else {
-            return i;
-        }
-    }
-    i
+    line.iter().position(|b| 128 <= *b).unwrap_or(line.len())
 }
 
 // Whether a line of 64 to 128 bytes has one of 128 or more: its first 64 and its last 64 are all of it. Here the loop's turns are known too, and
@@ -59,15 +48,13 @@ fn has_high(line: &[u8]) -> bool
 {
     let behind = line.len() - 64;
     let mut found = false;
-    let mut i = 0;
-    while i < 64 {
+    for i in 0..64 {
         if 127 < line[i] {
             found = true;
         }
         if 127 < line[behind + i] {
             found = true;
         }
-        i += 1;
     }
     found
 }
@@ -111,28 +98,28 @@ pub fn excess(size: usize) -> usize
     size - 1024
 }
 
-// Refusals 2 and 3, which come of the line's bytes alone. A number of 0 says that there is none.
-fn line_refusal(line: &[u8]) -> Refusal
-    ensures { result ≡ steps.first_refusal (specs.line_tests line.now) }
+// Refusals 2 and 3, which come of the line's bytes alone.
+fn test_line(line: &[u8]) -> Result<(), Refusal>
+    ensures { result ≡ steps.passed (specs.line_tests line.now) }
 {
     if 1024 < line.len() {
-        return Refusal::new(2, 1024, excess(line.len()));
+        return Err(Refusal::new(2, 1024, excess(line.len())));
     }
     let plain = plain_length(line);
     if plain < line.len() {
-        return Refusal::new(3, plain, 1);
+        return Err(Refusal::new(3, plain, 1));
     }
-    Refusal::new(0, 0, 0)
+    Ok(())
 }
 
-// These behind 1, for who asks for a record.
-fn entry_refusal(line: &[u8], remarks: &[u8]) -> Refusal
-    ensures { result ≡ steps.first_refusal (steps.entry_tests line.now remarks.now) }
+// Refusal 1 and then these, for callers that ask for a record.
+fn test_entry(line: &[u8], remarks: &[u8]) -> Result<(), Refusal>
+    ensures { result ≡ steps.passed (steps.entry_tests line.now remarks.now) }
 {
     if remarks.len() != 1000 {
-        return Refusal::new(1, 0, 0);
+        return Err(Refusal::new(1, 0, 0));
     }
-    line_refusal(line)
+    test_line(line)
 }
 
 // A refusal: no record and an empty list of faults.
@@ -182,8 +169,7 @@ fn lex_kind(number: usize, kind: Kind, line: &[u8], options: Options, remarks: &
 fn read_as(line: &[u8], number: usize, kind: Kind, options: Options, remarks: &[u8]) -> Answer
     ensures { result ≡ steps.read_as number kind (record { line = line.entry.now; options = options; remarks = remarks.now }) }
 {
-    let refusal = own_refusal(bound_of(kind), line, options.loose);
-    if refusal.number != 0 {
+    if let Err(refusal) = test_own(bound_of(kind), line, options.loose) {
         return refuse(number, refusal);
     }
     lex_kind(number, kind, line, options, remarks)
@@ -193,10 +179,7 @@ fn read_as(line: &[u8], number: usize, kind: Kind, options: Options, remarks: &[
 pub fn kind_line(line: &[u8], options: Options) -> Result<Kind, Refusal>
     ensures { result ≡ kind_asked line.now options }
 {
-    let refusal = line_refusal(line);
-    if refusal.number != 0 {
-        return Err(refusal);
-    }
+    test_line(line)?;
     let mode = options.mode;
     Ok(kind_of(options.atoms, mode, line))
 }
@@ -211,8 +194,7 @@ pub fn read_line_as(
 ) -> Answer
     ensures { result ≡ lexed_as kind (record { line = line.entry.now; number = number; options = options; remarks = remarks.now }) }
 {
-    let refusal = entry_refusal(line, remarks);
-    if refusal.number != 0 {
+    if let Err(refusal) = test_entry(line, remarks) {
         return refuse(number, refusal);
     }
     let mode = options.mode;
@@ -228,8 +210,7 @@ pub fn read_line_as(
 pub fn lex_line(line: &[u8], number: usize, options: Options, remarks: &[u8]) -> Answer
     ensures { result ≡ lexed (record { line = line.entry.now; number = number; options = options; remarks = remarks.now }) }
 {
-    let refusal = entry_refusal(line, remarks);
-    if refusal.number != 0 {
+    if let Err(refusal) = test_entry(line, remarks) {
         return refuse(number, refusal);
     }
     let mode = options.mode;

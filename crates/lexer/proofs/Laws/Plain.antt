@@ -1,5 +1,4 @@
--- Laws of the bytes before the first of 128 or more, one byte further, and of the highest byte.
---     plain-on, plain-stop         one byte further, and where the bytes stop
+-- Laws of the bytes before the first of 128 or more, and of the highest byte.
 --     plain-le                     no more than the list has
 --     plain-high, plain-low        a byte of 128 or more: fewer than that; none such: all of them
 --     highest-more, highest-same   one byte further, a higher one and none such
@@ -17,15 +16,6 @@ use lib.Seq.{drop-cons}
 use lib.Dec.{ltb}
 use Rattle.lexer.specs.Refusals.{plain}
 use Rattle.lexer.specs.Steps.{highest}
-
-module _ (t : List ℕ) (i : ℕ) (h : i < length t) where
-  pub plain-on : get_or t i 0 < 128 → plain (drop i t) ≡ suc (plain (drop (i + 1) t))
-  unfolding plain
-  plain-on e = rw (drop-cons t i 0, add-one i) (rw (lt-ltb (get_or t i 0) 128 e) refl)
-
-  pub plain-stop : 128 ≤ get_or t i 0 → plain (drop i t) ≡ 0
-  unfolding plain
-  plain-stop e = rw (drop-cons t i 0) (rw (le-ltb (get_or t i 0) 128 e) refl)
 
 pub plain-le : (t : List ℕ) → plain t ≤ length t
 unfolding plain

@@ -1,6 +1,7 @@
--- The entries in the code's own steps: several tests make one refusal, its number 0 where none holds.
+-- The entries in the code's own steps: several tests are made first, and the others where none of them holds.
 --     no_third         three tests whose third fails
---     first-split      tests in front of others, as one refusal
+--     first-split      tests in front of others
+--     after-ok         none of the first holds
 --     own-tests        those from 4 to 6, and what is accepted behind them
 --     lexed-split      a line's record: 1 to 3, and then those
 --     as_split         as one of a kind: 15 between them
@@ -10,13 +11,11 @@ use Prim.Native.Nat.{ℕ, ◌-◌}
 use mathlib.Core.Path.{◌≡◌, refl, ◌∙◌}
 use mathlib.Core.Bool.{Bool, true, false, cond, not, ◌&&◌}
 use mathlib.Core.List.{List, [], ◌∷◌, ◌++◌}
-use Rattle.std.specs.Prelude.{Ok, Err}
+use Rattle.std.specs.Prelude.{Result, Ok, Err}
 use native.Mathlib.Omega.{arith}
-use borrow.Author.Tests.{lt-ltb, le-ltb, ltb-true, ltb-false, not-true}
+use borrow.Author.Tests.{lt-ltb, le-ltb, ltb-true, ltb-false}
 use lib.ListN.{length}
-use lib.Dec.{T, ltb, eqb}
-use lib.Ieee.Bits.{is_true}
-use lib.Ieee.Fits.{and_l, and_r}
+use lib.Dec.{ltb, eqb}
 use Rattle.field.proofs.Laws.Table.{table-noted}
 use Rattle.line.specs.Faults.{no_faults}
 use Rattle.line.specs.declared.options.Options.{Options}
@@ -31,7 +30,7 @@ use Rattle.lexitem.specs.declared.bound.Bound.TheVariants as bound
 use Rattle.lexer.specs.Refusals.{Input, Test, kind, given, line_tests, own_tests, test}
 use Rattle.lexer.specs.Refusals.Asking.{its_record}
 use Rattle.lexer.specs.Lexed.{refused, accepted, first_of, lexed, lexed_as, kind_asked}
-use Rattle.lexer.specs.Steps.{first_refusal, entry_tests, own_refusal, header_refusal, remark_refusal, least_refusal, answer_of, read_as}
+use Rattle.lexer.specs.Steps.{passed, after, entry_tests, own_test, header_test, remark_test, least_test, answer_of, read_as}
 
 -- three tests whose third fails
 pub no_third : (a b : Bool) → (a && b) && false ≡ false
@@ -39,29 +38,22 @@ no_third true true = refl
 no_third true false = refl
 no_third false b = refl
 
--- ---- tests as one refusal
--- none of their refusals has the number 0
-abbrev numbered : List Test → Bool
-numbered [] = true
-numbered (t ∷ ts) = not (eqb t.gives.number 0) && numbered ts
-
-pub first-split : {A : Type 0} (refuse : Refusal → A) (ts rest : List Test) (else : A) → T (numbered ts)
-    → first_of refuse (ts ++ rest) else ≡ cond (eqb (first_refusal ts).number 0) (first_of refuse rest else) (refuse (first_refusal ts))
-first-split refuse [] rest else h = refl
-first-split {A} refuse (t ∷ ts) rest else h =
-    let some = not (eqb t.gives.number 0) in
-    go t.holds (not-true (eqb t.gives.number 0) (is_true some (and_l some (numbered ts) h)))
-    (first-split refuse ts rest else (and_r some (numbered ts) h))
+-- ---- tests in front of others
+pub first-split : {A : Type 0} (refuse : Refusal → A) (ts rest : List Test) (else : A)
+    → first_of refuse (ts ++ rest) else ≡ after (passed ts) refuse (first_of refuse rest else)
+first-split refuse [] rest else = refl
+first-split {A} refuse (t ∷ ts) rest else = go t.holds (first-split refuse ts rest else)
   where
-    all : A
-    all = first_of refuse (ts ++ rest) else
+    go : (b : Bool) → first_of refuse (ts ++ rest) else ≡ after (passed ts) refuse (first_of refuse rest else)
+        → cond b (refuse t.gives) (first_of refuse (ts ++ rest) else)
+        ≡ after (cond b (Err t.gives) (passed ts)) refuse (first_of refuse rest else)
+    go true ih = refl
+    go false ih = ih
 
-    go : (b : Bool) → eqb t.gives.number 0 ≡ false
-        → all ≡ cond (eqb (first_refusal ts).number 0) (first_of refuse rest else) (refuse (first_refusal ts))
-        → cond b (refuse t.gives) all
-        ≡ cond (eqb (cond b t.gives (first_refusal ts)).number 0) (first_of refuse rest else) (refuse (cond b t.gives (first_refusal ts)))
-    go true e ih = rw e refl
-    go false e ih = ih
+pub after-ok : {A : Type 0} (r : Result (Unit {0}) Refusal) (refuse : Refusal → A) (rest : A)
+    → ((x : Refusal) → r ≡ Err x → ⊥) → after r refuse rest ≡ rest
+after-ok (Ok none) refuse rest h = refl
+after-ok (Err x) refuse rest h = absurd (h x refl)
 
 -- ---- what a kind asks of its line
 -- bytes are missing exactly where the line is shorter
@@ -72,8 +64,8 @@ missing-test n m = go (ltb m n) refl
     go true e = let h = ltb-true m n e in lt-ltb 0 (n - m) (omega arith)
     go false e = let h = ltb-false m n e in le-ltb 0 (n - m) (omega arith)
 
-own_first : (b : Bound) (l : List ℕ) (loose : Bool) → first_refusal (own_tests its_record b l loose) ≡ own_refusal b l loose
-unfolding header_refusal remark_refusal least_refusal
+own_first : (b : Bound) (l : List ℕ) (loose : Bool) → passed (own_tests its_record b l loose) ≡ own_test b l loose
+unfolding header_test remark_test least_test
 own_first bound.Header l loose = refl
 own_first bound.Remark l loose = refl
 own_first (bound.Least n) l loose = rw (missing-test n (length l)) refl
@@ -90,27 +82,25 @@ module _ (i : Input) where
   unfolding read_as
   own-tests =
       let own = own_tests its_record (bound_of (kind i)) i.line i.options.loose in
-      first-split (refused i) own [] (accepted i) tt
+      first-split (refused i) own [] (accepted i)
       ∙ rw (own_first (bound_of (kind i)) i.line i.options.loose, accepted_got) refl
 
   -- ---- the entries
   pub lexed-split : lexed i
-      ≡ cond (eqb (first_refusal (entry_tests i.line i.remarks)).number 0) (read_as i.number (kind i) (given i))
-      (refused i (first_refusal (entry_tests i.line i.remarks)))
+      ≡ after (passed (entry_tests i.line i.remarks)) (refused i) (read_as i.number (kind i) (given i))
   unfolding lexed
   lexed-split =
       let own = own_tests its_record (bound_of (kind i)) i.line i.options.loose in
-      first-split (refused i) (entry_tests i.line i.remarks) (test false 15 0 0 ∷ own) (accepted i) tt ∙ rw own-tests refl
+      first-split (refused i) (entry_tests i.line i.remarks) (test false 15 0 0 ∷ own) (accepted i) ∙ rw own-tests refl
 
   pub as_split : (k : Kind) → lexed_as k i
-      ≡ cond (eqb (first_refusal (entry_tests i.line i.remarks)).number 0)
+      ≡ after (passed (entry_tests i.line i.remarks)) (refused i)
       (cond (eqb (number_of k) (number_of (kind i))) (read_as i.number (kind i) (given i)) (refused i (refusal 15 0 0)))
-      (refused i (first_refusal (entry_tests i.line i.remarks)))
   unfolding lexed_as
   as_split k =
       let own = own_tests its_record (bound_of (kind i)) i.line i.options.loose in
       let other = not (eqb (number_of k) (number_of (kind i))) in
-      first-split (refused i) (entry_tests i.line i.remarks) (test other 15 0 0 ∷ own) (accepted i) tt
+      first-split (refused i) (entry_tests i.line i.remarks) (test other 15 0 0 ∷ own) (accepted i)
       ∙ rw (own-tests, turned (eqb (number_of k) (number_of (kind i)))) refl
     where
       turned : (b : Bool) → cond (not b) (refused i (refusal 15 0 0)) (read_as i.number (kind i) (given i))
@@ -119,6 +109,6 @@ module _ (i : Input) where
       turned false = refl
 
 pub asked-split : (l : List ℕ) (options : Options) → kind_asked l options
-    ≡ cond (eqb (first_refusal (line_tests l)).number 0) (Ok (kind_of options.atoms options.mode l)) (Err (first_refusal (line_tests l)))
+    ≡ after (passed (line_tests l)) Err (Ok (kind_of options.atoms options.mode l))
 unfolding kind_asked
-asked-split l options = first-split Err (line_tests l) [] (Ok (kind_of options.atoms options.mode l)) tt
+asked-split l options = first-split Err (line_tests l) [] (Ok (kind_of options.atoms options.mode l))

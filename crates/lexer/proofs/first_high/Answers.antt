@@ -1,25 +1,28 @@
--- `lexer::first_high` meets its contract. The loop's invariant: the bytes passed, and those before the first high one from here.
+-- `lexer::first_high` meets its contract: `position` finds the first byte of 128 or more, and `plain` counts those in front of it.
 -- Assumes nothing.
-use native.Mathlib.Omega.{arith}
-use lib.ListN.{drop, length-drop}
-use Rattle.lexer.proofs.Laws.Plain.{plain-on, plain-stop, plain-le}
+use Prim.Native.Nat.{ℕ, ◌+◌, ◌<◌, ◌≤◌}
+use mathlib.Core.Path.{◌≡◌, refl, sym, ◌∙◌}
+use mathlib.Core.List.{List, ◌∷◌}
+use native.Mathlib.Numerals.{add-one}
 use borrow.Author.Rules.{rules}
+use borrow.Author.Tests.{tests, lt-ltb, le-ltb}
+use Rattle.std.proofs.lemmas.Iterator.{YieldsList-from_slice, IsFirst-from_position, index_from_first}
+use Rattle.lexer.specs.Refusals.{plain}
 use Rattle.lexer.proofs.first_high.Goals as goal
 
-pub loop-i-preserved : goal.loop-i-preserved
-loop-i-preserved c =
-    let l = c.loop-i in
-    let e = plain-on c.args.line.now l.i c.loop-i-test.true c.if-line-i-lt128.true in
-    (search rules, omega arith)
+hit : (b : ℕ) (t : List ℕ) → 128 ≤ b → plain (b ∷ t) ≡ 0
+unfolding plain
+hit b t h = rw (le-ltb b 128 h) refl
 
-pub returns-else-line-i-lt128 : goal.returns-else-line-i-lt128
-returns-else-line-i-lt128 c =
-    let l = c.loop-i in
-    let e = plain-stop c.args.line.now l.i c.loop-i-test.true c.if-line-i-lt128.false in
-    omega arith
+miss : (b : ℕ) (t : List ℕ) → b < 128 → plain (b ∷ t) ≡ plain t + 1
+unfolding plain
+miss b t h = rw (lt-ltb b 128 h, add-one (plain t)) refl
 
 pub returns : goal.returns
+unfolding plain
 returns c =
-    let l = c.loop-i in
     let t = c.args.line.now in
-    omega (arith, plain-le (drop l.i t), length-drop l.i t)
+    let first =
+    IsFirst-from_position _ _ c.position.result (λ b. 128 ≤ b) (λ b. b < 128) c.position.ensures.ran
+    (YieldsList-from_slice t c.iter.ensures.rest) (λ x q k. search (rules, tests)) (λ x q k. search (rules, tests)) in
+    c.unwrap_or.ensures ∙ sym (index_from_first plain (λ b. 128 ≤ b) (λ b. b < 128) refl hit miss t c.position.result first)

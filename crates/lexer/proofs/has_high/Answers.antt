@@ -5,7 +5,6 @@ use mathlib.Core.Path.{◌≡◌, refl, sym, ◌∙◌}
 use mathlib.Core.Bool.{Bool, true, false}
 use mathlib.Core.List.{List}
 use native.Mathlib.Omega.{arith}
-use borrow.Author.Rules.{rules}
 use borrow.Author.Tests.{lt-ltb, le-ltb, ltb-true, ltb-false}
 use lib.ListN.{length, get_or}
 use lib.Dec.{ltb}
@@ -39,27 +38,22 @@ seen_all t behind false e h s = sym (le-ltb (plain t) (length t) (omega (arith, 
         let z : behind + (p - behind) ≡ p = omega (arith, ltb-false p 64 f) in
         rw z at (s (p - behind) (omega (arith, ltb-false p 64 f))).1
 
-pub loop-i-init : goal.loop-i-init
-loop-i-init c = (omega arith, λ p h. absurd (omega arith))
-
 pub loop-i-preserved : goal.loop-i-preserved
 loop-i-preserved c =
     let loop = c.loop-i in
     let t = c.args.line.now in
-    let behind = length t - 64 in (
-      search rules,
-      elim c.if-line-behind-gt127.branch [
-        | then-line-behind-gt127 w ↦ seen-high t behind loop.i (behind + loop.i) _ (omega arith) w.if-line-behind-gt127.true w.found-is
-        | else-line-behind-gt127 w ↦ elim c.if-line-i-gt127.branch [
-          | then-line-i-gt127 v ↦ seen-high t behind loop.i loop.i _ (omega arith) v.if-line-i-gt127.true (w.found-is ∙ v.found-is)
-          | else-line-i-gt127 v ↦ seen_low t behind loop.i loop.found _ loop.invariant.1 v.if-line-i-gt127.false w.if-line-behind-gt127.false (w.found-is ∙ v.found-is)
-        ]
-      ],
-    )
+    let behind = length t - 64 in
+    elim c.if-line-behind-gt127.branch [
+      | then-line-behind-gt127 w ↦ seen-high t behind loop.i (behind + loop.i) _ (omega arith) w.if-line-behind-gt127.true w.found-is
+      | else-line-behind-gt127 w ↦ elim c.if-line-i-gt127.branch [
+        | then-line-i-gt127 v ↦ seen-high t behind loop.i loop.i _ (omega arith) v.if-line-i-gt127.true (w.found-is ∙ v.found-is)
+        | else-line-i-gt127 v ↦ seen_low t behind loop.i loop.found _ loop.invariant v.if-line-i-gt127.false w.if-line-behind-gt127.false (w.found-is ∙ v.found-is)
+      ]
+    ]
 
 pub returns : goal.returns
 returns c =
     let loop = c.loop-i in
     let t = c.args.line.now in
     let e : loop.i ≡ 64 = omega arith in
-    seen_all t (length t - 64) loop.found (omega arith) (omega arith) (rw e at loop.invariant.1)
+    seen_all t (length t - 64) loop.found (omega arith) (omega arith) (rw e at loop.invariant)

@@ -1,6 +1,6 @@
 -- `lexer::has_high` meets its contract. The loop's invariant: a high byte was seen, or each byte that was looked at is low.
 -- Assumes nothing.
-use Prim.Native.Nat.{ℕ, ◌+◌, ◌-◌, ◌≤◌, ◌<◌}
+use Prim.Native.Nat.{ℕ, ◌+◌, ◌≤◌, ◌<◌}
 use mathlib.Core.Bool.{Bool, true, false}
 use mathlib.Core.List.{List}
 use lib.ListN.{length, get_or}
@@ -13,7 +13,4 @@ Seen t behind i true = plain t < length t
 Seen t behind i false = (p : ℕ) → p < i → (get_or t p 0 ≤ 127) × (get_or t (behind + p) 0 ≤ 127)
 
 abbrev pub invariant-loop-i : goal.invariant-loop-i
-invariant-loop-i l = (l.i ≤ 64) × Seen l.line l.behind l.i l.found
-
-abbrev pub decreases-loop-i : goal.decreases-loop-i
-decreases-loop-i l = 64 - l.i
+invariant-loop-i l = Seen l.line l.behind l.i l.found

@@ -1,18 +1,17 @@
--- `lexer::kind_line` meets its contract: its tests make one refusal.
+-- `lexer::kind_line` meets its contract: its tests are those of `line_tests`.
 -- Assumes nothing.
-use mathlib.Core.Path.{refl, ap}
-use Rattle.std.specs.Prelude.{Ok}
-use borrow.Author.Tests.{eq-eqb, ne_eqb}
+use Rattle.std.proofs.lemmas.Result.{err_from_is_err_and}
+use mathlib.Core.Path.{refl}
 use Rattle.lexer.proofs.Laws.Tests.{asked-split}
 use Rattle.lexer.proofs.kind_line.Goals as goal
 
-pub returns-then-refusal-ne0 : goal.returns-then-refusal-ne0
-returns-then-refusal-ne0 c =
+pub returns-in_err-test_line : goal.returns-in_err-test_line
+returns-in_err-test_line c =
     let a = c.args in
-    rw (asked-split a.line.now a.options, ← c.line_refusal-refusal.ensures, ne_eqb _ 0 c.if-refusal-ne0.true) refl
+    let p = err_from_is_err_and c.from_residual.result c.from_residual.ensures.1 in
+    rw (p.1, p.2, asked-split a.line.now a.options, ← c.test_line.ensures, c.in_err-test_line.was) refl
 
 pub returns : goal.returns
 returns c =
     let a = c.args in
-    rw (asked-split a.line.now a.options, ← c.line_refusal-refusal.ensures, eq-eqb _ 0 c.if-refusal-ne0.false)
-    (ap Ok c.kind_of.ensures)
+    rw (asked-split a.line.now a.options, ← c.test_line.ensures, c.in_ok-test_line.was, c.kind_of.ensures) refl

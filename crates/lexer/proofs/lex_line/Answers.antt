@@ -1,19 +1,18 @@
--- `lexer::lex_line` meets its contract: its first tests make one refusal, and `read_as` makes the others.
+-- `lexer::lex_line` meets its contract: its first tests are those of `entry_tests`, and `read_as` makes the others.
 -- Assumes nothing.
-use borrow.Author.Tests.{eq-eqb, ne_eqb}
 use Rattle.lexer.specs.Refusals.{Input}
-use Rattle.lexer.proofs.Laws.Tests.{lexed-split}
+use Rattle.lexer.proofs.Laws.Tests.{lexed-split, after-ok}
 use Rattle.lexer.proofs.lex_line.Goals as goal
 
-pub returns-then-refusal-ne0 : goal.returns-then-refusal-ne0
-returns-then-refusal-ne0 c =
+pub returns-in-Err : goal.returns-in-Err
+returns-in-Err c =
     let a = c.args in
     let i : Input = record { line = a.line.now; number = a.number; options = a.options; remarks = a.remarks.now } in
-    rw (lexed-split i, ← c.entry_refusal-refusal.ensures, ne_eqb _ 0 c.if-refusal-ne0.true) c.refuse.ensures
+    rw (lexed-split i, ← c.test_entry.ensures, c.in-Err.is) c.refuse.ensures
 
 pub returns : goal.returns
 returns c =
     let a = c.args in
     let i : Input = record { line = a.line.now; number = a.number; options = a.options; remarks = a.remarks.now } in
-    rw (lexed-split i, ← c.entry_refusal-refusal.ensures, eq-eqb _ 0 c.if-refusal-ne0.false, ← c.kind_of.ensures)
-    c.read_as.ensures
+    let passes = c.in_default.not-Err in
+    rw (lexed-split i, ← c.test_entry.ensures, after-ok, ← c.kind_of.ensures) c.read_as.ensures
