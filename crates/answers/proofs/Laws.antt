@@ -1,6 +1,4 @@
--- The laws of the words in specs/. Face is of what is made of a listing's answer; One says that its contracts leave nothing free, and that the two
--- sorts of answer tell the same.
-pub mod Face
+-- The laws of the words in specs/. One says that the contracts leave nothing free, and that the two sorts of answer tell the same.
 pub mod Ask
 pub mod Places
 pub mod One

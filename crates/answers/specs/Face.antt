@@ -1,22 +1,20 @@
 -- "C hosts call the listing entry with numbers and byte slices alone, and get the bytes written, or 0 on a refusal (no listing is empty); three
 -- more calls with the same arguments give the refusal's number, place and length, all 0 where there is none."
-use Rattle.std.specs.Prelude.{ℕ, ◌≡◌, List, length}
+use Rattle.std.specs.Prelude.{ℕ, ◌≡◌, List, length, Result, Ok, Err}
 use Rattle.lexer.specs.Lexed.{lexed}
 use Rattle.lexer.specs.Refusals.{Input}
 use Rattle.lexitem.specs.declared.answer.Refusal.{Refusal}
 use Rattle.listing.specs.Listed.{measured, listed_bytes}
-use Rattle.listing.specs.declared.Listed.{Listed}
-use Rattle.listing.specs.declared.Listed.TheVariants.{Written, Refused}
 
 -- the bytes written, or 0
-abbrev pub written_by : Listed → ℕ
-written_by (Written n) = n
-written_by (Refused r) = 0
+abbrev pub written_by : Result ℕ Refusal → ℕ
+written_by (Ok n) = n
+written_by (Err r) = 0
 
 -- the refusal, or all 0
-abbrev pub refusal_by : Listed → Refusal
-refusal_by (Written n) = record { number = 0; place = 0; length = 0 }
-refusal_by (Refused r) = r
+abbrev pub refusal_by : Result ℕ Refusal → Refusal
+refusal_by (Ok n) = record { number = 0; place = 0; length = 0 }
+refusal_by (Err r) = r
 
 -- those of a line whose listing has so much room
 abbrev pub written_for : ℕ → Input → ℕ

@@ -1,16 +1,16 @@
 -- "One byte for each R field of the record, ascending by column, at the front of out; answers how many; 0 and an untouched output if the line is
 -- refused, has no R field, or out is shorter."
-use Rattle.std.specs.Prelude.{ℕ, ◌≡◌, cond, List, [], ◌++◌, length, drop, ltb}
+use Rattle.std.specs.Prelude.{ℕ, ◌≡◌, cond, List, [], ◌++◌, length, drop, ltb, Result, Ok, Err}
 use Rattle.layout.specs.Places.{places_of}
 use Rattle.lexer.specs.Lexed.{lexed}
 use Rattle.lexer.specs.Refusals.{Input}
 use Rattle.lexitem.specs.Describe.{fields_of}
-use Rattle.lexitem.specs.declared.answer.Outcome.{Outcome}
-use Rattle.lexitem.specs.declared.answer.Outcome.TheVariants.{Accepted, Refused}
+use Rattle.lexitem.specs.declared.answer.Refusal.{Refusal}
+use Rattle.lexitem.specs.declared.item.LexItem.{LexItem}
 
-abbrev pub places_by : Outcome → List ℕ
-places_by (Accepted item) = places_of (fields_of item)
-places_by (Refused r) = []
+abbrev pub places_by : Result LexItem Refusal → List ℕ
+places_by (Ok item) = places_of (fields_of item)
+places_by (Err r) = []
 
 -- the places of a line's record
 abbrev pub places_for : Input → List ℕ

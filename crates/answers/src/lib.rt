@@ -1,5 +1,5 @@
 // What C hosts are told of a line in numbers and bytes: here its listing, in `kinds` which kind it is, in `places` how many decimals were written.
-// Three functions tell of a listing's refusal; they take the lent bytes of the first, and only their number counts.
+// Three functions, one for each name in C, tell of a listing's refusal; they take the lent bytes of the first, and only their number counts.
 #![tactic(auto)]
 
 ghost use Rattle.std.specs.Prelude.{◌≡◌};
@@ -10,7 +10,7 @@ pub mod kinds;
 pub mod places;
 
 use lexitem::answer::Refusal;
-use listing::{Listed, list_line, measure_line};
+use listing::{list_line, measure_line};
 use packing::options_of;
 
 // How many bytes of the line's listing were written at the front of the lent ones; 0 says that it was refused, and that
@@ -18,10 +18,7 @@ use packing::options_of;
 pub fn list_into(line: &[u8], number: usize, options: u32, remarks: &[u8], out: &mut [u8]) -> usize
     ensures { specs.WrittenInto out.old (input_of line.now number options remarks.now) result out.new }
 {
-    match list_line(line, number, options_of(options), remarks, out) {
-        Listed::Written(n) => n,
-        Listed::Refused(_) => 0,
-    }
+    list_line(line, number, options_of(options), remarks, out).unwrap_or(0)
 }
 
 // The refusal of a line whose listing has so much room, all 0 where there is none.
@@ -29,8 +26,8 @@ fn refusal_of(line: &[u8], number: usize, options: u32, remarks: &[u8], room: us
     ensures { result ≡ specs.refusal_for room (input_of line.now number options remarks.now) }
 {
     match measure_line(line, number, options_of(options), remarks, room) {
-        Listed::Written(_) => Refusal::new(0, 0, 0),
-        Listed::Refused(refusal) => refusal,
+        Ok(_) => Refusal::new(0, 0, 0),
+        Err(refusal) => refusal,
     }
 }
 

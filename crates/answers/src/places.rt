@@ -6,7 +6,6 @@ ghost use Rattle.lexitem.specs.Describe.{fields_of};
 
 use layout::places::{count_places, put_places};
 use lexer::lex_line;
-use lexitem::answer::Outcome;
 use lexitem::item::{LexItem, rows_of};
 use packing::options_of;
 
@@ -33,9 +32,8 @@ pub fn places_into(
     ensures { specs.Counts out.old (specs.places_for (input_of line.now number options remarks.now)) result out.new }
 {
     let answer = lex_line(line, number, options_of(options), remarks);
-    let outcome = answer.outcome;
-    match outcome {
-        Outcome::Accepted(item) => put_counted(item, out),
-        Outcome::Refused(_) => 0,
+    match answer.outcome {
+        Ok(item) => put_counted(item, out),
+        Err(_) => 0,
     }
 }

@@ -4,23 +4,15 @@ ghost use Rattle.layout.specs.Fault.{faults_bytes};
 ghost use Rattle.page.specs.Page.{page, put};
 
 use layout::fault::put_fault;
-use line::fault::{Fault, Faults};
+use lexitem::fault::LineFaults;
 
-// The first so many of a list.
-pub(crate) fn put_faults(
-    out: &mut [u8],
-    at: usize,
-    faults: [Fault; Faults::MOST],
-    count: usize,
-) -> usize
-    requires { count ≤ 15 }
-    ensures { page out.new result ≡ put (page out.old at) (faults_bytes (take count faults)) }
+pub(crate) fn put_faults(out: &mut [u8], at: usize, faults: LineFaults) -> usize
+    requires { faults.count ≤ 15 }
+    ensures { page out.new result ≡ put (page out.old at) (faults_bytes (take faults.count faults.list)) }
 {
     let mut next = at;
-    let mut i = 0;
-    while i < count {
-        next = put_fault(out, next, faults[i]);
-        i += 1;
+    for fault in &faults.list[..faults.count] {
+        next = put_fault(out, next, *fault);
     }
     next
 }

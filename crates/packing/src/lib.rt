@@ -17,7 +17,7 @@ fn mode_of(bits: u32) -> Mode
     Mode::Crate
 }
 
-// The options by their bits.
+// The options by their bits. This and `packed` are no `From`, since their types are other crates'.
 pub fn options_of(bits: u32) -> Options
     ensures { result ≡ options_of bits }
 {

@@ -7,6 +7,7 @@ use Prim.Native.Nat.{ℕ, ◌^◌, ◌≤◌, ◌<◌}
 use mathlib.Core.Path.{◌≡◌, refl, sym, ap, ◌∙◌}
 use mathlib.Core.Bool.{Bool, true, false, cond}
 use mathlib.Core.List.{List}
+use Rattle.std.specs.Prelude.{Result, Ok, Err}
 use native.Mathlib.Omega.{arith}
 use borrow.Author.Tests.{ltb-false}
 use lib.ListN.{length}
@@ -16,17 +17,16 @@ use Rattle.lexitem.specs.declared.answer.Refusal.{Refusal}
 use Rattle.lexitem.specs.Answer.{refusal}
 use Rattle.kind.specs.Kind.{kind_of, number_of}
 use Rattle.kind.proofs.Laws.Number.{kind-known}
+use Rattle.kind.specs.declared.Kind.{Kind}
 use Rattle.lexer.specs.Lexed.{kind_asked}
 use Rattle.lexer.specs.Refusals.{plain, excess}
-use Rattle.lexer.specs.declared.Asked.{Asked}
-use Rattle.lexer.specs.declared.Asked.TheVariants.{Is, Refused}
 use Rattle.lexer.proofs.Laws.Plain.{plain-le}
 use Rattle.packing.proofs.Laws.Packed as packing
 use Rattle.answers.specs.Ask.{kind_word}
 
-abbrev pub Small : Asked → Type 0
-Small (Is k) = Unit {0}
-Small (Refused r) = packing.Small r
+abbrev pub Small : Result Kind Refusal → Type 0
+Small (Ok k) = Unit {0}
+Small (Err r) = packing.Small r
 
 pub asked-small : (l : List ℕ) (options : Options) → Small (kind_asked l options)
 unfolding kind_asked
@@ -34,8 +34,8 @@ asked-small l options = go (ltb 1024 (length l)) (ltb (plain l) (length l)) (ltb
   where
     go : (b c : Bool) → (b ≡ false → length l ≤ 1024)
         → Small
-        (cond b (Refused (refusal 2 1024 (excess (length l))))
-        (cond c (Refused (refusal 3 (plain l) 1)) (Is (kind_of options.atoms options.mode l))))
+        (cond b (Err (refusal 2 1024 (excess (length l))))
+        (cond c (Err (refusal 3 (plain l) 1)) (Ok (kind_of options.atoms options.mode l))))
     go true c h = (omega arith, omega arith, omega arith)
     go false true h = let n = h refl in (omega arith, omega (arith, plain-le l), omega arith)
     go false false h = tt
@@ -43,9 +43,9 @@ asked-small l options = go (ltb 1024 (length l)) (ltb (plain l) (length l)) (ltb
 pub kind-small : (l : List ℕ) (options : Options) → number_of (kind_of options.atoms options.mode l) < 2 ^ 48
 kind-small l options = omega (arith, kind-known options.atoms options.mode l)
 
-module _ (l : List ℕ) (options : Options) (a : Asked) (e : a ≡ kind_asked l options) where
-  pub refusal-small : {r : Refusal} → a ≡ Refused r → Small (Refused r)
+module _ (l : List ℕ) (options : Options) (a : Result Kind Refusal) (e : a ≡ kind_asked l options) where
+  pub refusal-small : {r : Refusal} → a ≡ Err r → Small (Err r)
   refusal-small f = rw (sym e ∙ f) at (asked-small l options)
 
-  pub word-is : (b : Asked) → a ≡ b → kind_word b ≡ kind_word (kind_asked l options)
+  pub word-is : (b : Result Kind Refusal) → a ≡ b → kind_word b ≡ kind_word (kind_asked l options)
   word-is b f = ap kind_word (sym f ∙ e)

@@ -8,6 +8,7 @@ use mathlib.Core.Path.{◌≡◌, refl, sym, ◌∙◌}
 use mathlib.Core.Bool.{Bool, true, false, cond, ◌&&◌}
 use mathlib.Core.List.{List, [], ◌∷◌}
 use mathlib.Core.Logic.{◌↔◌}
+use Rattle.std.specs.Prelude.{Result, Ok, Err}
 use native.Mathlib.Omega.{arith}
 use borrow.Author.Tests.{le-leb, ltb-true}
 use lib.ListN.{length}
@@ -15,14 +16,10 @@ use lib.Dec.{leb, ltb}
 use Rattle.lexer.specs.Lexed.{lexed, refused, accepted, first_of}
 use Rattle.lexer.specs.Refusals.{Input, Test, tests}
 use Rattle.lexer.specs.Refusals.Asking.{its_record}
-use Rattle.lexitem.specs.declared.answer.Outcome.{Outcome}
-use Rattle.lexitem.specs.declared.answer.Outcome.TheVariants as outcome
 use Rattle.lexitem.specs.declared.answer.Refusal.{Refusal}
 use Rattle.lexitem.specs.declared.item.LexItem.{LexItem}
 use Rattle.listing.specs.Listed.{listed_answer, listing_by}
 use Rattle.listing.specs.Listing.{longest}
-use Rattle.listing.specs.declared.Listed.{Listed}
-use Rattle.listing.specs.declared.Listed.TheVariants.{Written, Refused}
 use Rattle.listing.proofs.Laws.Longest.{listing_some, listing_longest}
 use Rattle.answers.specs.Face.{written_by, refusal_by, written_for, refusal_for, WrittenInto, Told}
 
@@ -34,9 +31,9 @@ module _ {before : List ℕ} {i : Input} {r s : ℕ} {after other : List ℕ} wh
   told-one part a b = (a.answer ∙ sym b.answer, a.bytes ∙ sym b.bytes)
 
 -- ---- a refusal of the line has a number above 0
-abbrev number_in : Outcome → ℕ
-number_in (outcome.Accepted x) = 1
-number_in (outcome.Refused r) = r.number
+abbrev number_in : Result LexItem Refusal → ℕ
+number_in (Ok x) = 1
+number_in (Err r) = r.number
 
 abbrev numbered : List Test → Bool
 numbered [] = true
@@ -62,22 +59,22 @@ unfolding lexed
 number-some i = first-number i (tests its_record i) refl
 
 -- ---- by what is measured
-abbrev Apart : Listed → Type 0
+abbrev Apart : Result ℕ Refusal → Type 0
 Apart m = (written_by m ≡ 0) ↔ (0 < (refusal_by m).number)
 
-apart : (room : ℕ) (i : Input) (o : Outcome) → 0 < number_in o → Apart (listed_answer room i o)
-apart room i (outcome.Accepted x) h = go (leb (length (listing_by i x)) room) (listing_some _ _ _ _)
+apart : (room : ℕ) (i : Input) (o : Result LexItem Refusal) → 0 < number_in o → Apart (listed_answer room i o)
+apart room i (Ok x) h = go (leb (length (listing_by i x)) room) (listing_some _ _ _ _)
   where
     go : (b : Bool) → 0 < length (listing_by i x)
-        → Apart (cond b (Written (length (listing_by i x))) (Refused (record { number = 8; place = 0; length = length (listing_by i x) })))
+        → Apart (cond b (Ok (length (listing_by i x))) (Err (record { number = 8; place = 0; length = length (listing_by i x) })))
     go true some = (λ e. absurd (omega arith), λ k. absurd (omega arith))
     go false some = (λ e. omega arith, λ k. refl)
-apart room i (outcome.Refused r) h = (λ e. h, λ k. refl)
+apart room i (Err r) h = (λ e. h, λ k. refl)
 
 pub told-apart : (room : ℕ) (i : Input) → (written_for room i ≡ 0) ↔ (0 < (refusal_for room i).number)
 told-apart room i = apart room i (lexed i).outcome (number-some i)
 
-pub room-enough : (room : ℕ) (i : Input) (x : LexItem) → longest ≤ room → (lexed i).outcome ≡ outcome.Accepted x
+pub room-enough : (room : ℕ) (i : Input) (x : LexItem) → longest ≤ room → (lexed i).outcome ≡ Ok x
     → written_for room i ≡ length (listing_by i x)
 room-enough room i x h e =
     let l = listing_longest i x e in

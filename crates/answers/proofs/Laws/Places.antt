@@ -1,16 +1,15 @@
 -- The places of a record's rows, counted and put.
 --     record-places     sixteen rows have the places of the fields
---     counts-none       no places leave the lent bytes as they are
 --     counts-short      where the lent bytes are too few they stay
 --     counts-put        and where they are enough, the places stand at their front
 --     counts-one        the contract leaves nothing free
 -- Assumes nothing.
 use Prim.Native.Nat.{ℕ, ◌^◌, ◌≤◌, ◌<◌}
 use mathlib.Core.Path.{◌≡◌, refl, sym, ap, ◌∙◌}
-use mathlib.Core.List.{List, []}
+use mathlib.Core.List.{List}
 use native.Mathlib.Omega.{arith}
 use borrow.Author.Tests.{lt-ltb, le-ltb}
-use lib.ListN.{length, drop}
+use lib.ListN.{length}
 use Rattle.layout.specs.Places.{row_places, places_of}
 use Rattle.layout.proofs.Laws.Each.{each-padded}
 use Rattle.layout.proofs.Laws.Places.{places-most}
@@ -25,10 +24,6 @@ use Rattle.answers.specs.Places.{Counts}
 pub record-places : (item : LexItem) → places_of (rows_of (fields_of item)).list ≡ places_of (fields_of item)
 unfolding row_places
 record-places item = each-padded row_places refl 16 (fields_of item) (rows_sixteen item)
-
-pub counts-none : (before : List ℕ) → Counts before [] 0 before
-unfolding drop
-counts-none before = let b = le-ltb (length before) 0 (omega arith) in record { answer = rw b refl; bytes = rw b refl }
 
 module _ (before : List ℕ) (item : LexItem) where
   pub counts-short : length before < length (places_of (fields_of item)) → Counts before (places_of (fields_of item)) 0 before

@@ -6,6 +6,7 @@
 use Prim.Native.Nat.{ℕ, ◌+◌, ◌*◌, ◌≤◌, ◌<◌}
 use mathlib.Core.Path.{◌≡◌}
 use mathlib.Core.List.{List, [], ◌∷◌}
+use Rattle.std.specs.Prelude.{Ok}
 use native.Mathlib.Omega.{arith}
 use lib.ListN.{length, length-append}
 use lib.Dec.{leb, leb→le, lit≤}
@@ -16,7 +17,6 @@ use Rattle.lexer.specs.Refusals.{Input, kind, given}
 use Rattle.line.specs.Faults.{number_of}
 use Rattle.lexitem.specs.Fault.{told, faults_in}
 use Rattle.line.specs.Given.{Given}
-use Rattle.lexitem.specs.declared.answer.Outcome.TheVariants.{Accepted}
 use Rattle.line.specs.declared.fault.Fault.{Fault}
 use Rattle.line.specs.declared.fault.FaultKind.{FaultKind}
 use Rattle.line.specs.declared.fault.FaultKind.TheVariants.{Short, Wrong, NoDigit, NoSign, Unknown}
@@ -91,7 +91,7 @@ listing_most n l x fs room h few =
     let each = faults-most fs in
     simp length-append (omega arith)
 
-pub listing_longest : (i : Input) (x : LexItem) → (lexed i).outcome ≡ Accepted x → length (listing_by i x) ≤ longest
+pub listing_longest : (i : Input) (x : LexItem) → (lexed i).outcome ≡ Ok x → length (listing_by i x) ≤ longest
 listing_longest i x e =
     let room = kind-room (kind i) (given i) (accepted-line i x e) in
     let all = listing_most i.number i.line (item_of (kind i) (given i)) (faults_in (told (lexed i).faults)) 3091 (omega arith) (rw (accepted-faults i x e) (faults_fifteen (kind i) (given i))) in

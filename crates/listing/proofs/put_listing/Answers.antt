@@ -14,7 +14,7 @@ pub returns : goal.returns
 unfolding listing_of
 returns c =
     let many = c.well_formed in
-    let count = length-take-le c.args.count c.args.faults (omega arith) in
+    let count = length-take-le c.args.faults.count c.args.faults.list (omega arith) in
     let rows = rw (c.rows_of-rows.ensures, fields-padded) at c.put_rows-total.ensures in
     rw count
     (put_then _ _ _ _ _ (put_then _ _ _ _ _ (put_then _ _ _ _ _ c.put_name-fields.ensures rows)

@@ -4,12 +4,10 @@ use Rattle.kind.proofs.Laws.Name.{name-most, six-front}
 use Rattle.kind.specs.Name.{name_of}
 use Rattle.listing.proofs.put_name.Goals as goal
 
-pub put_front-requires : goal.put_front-requires
-put_front-requires c =
-    let k = c.kind.result in
-    rw c.name_of-name.ensures (name-most k)
+pub shared_ref_as_front-put_head : goal.shared_ref_as_front-put_head
+shared_ref_as_front-put_head c = rw c.name_of-name.ensures (name-most c.kind.result)
 
 pub returns : goal.returns
 returns c =
     let k = c.kind in
-    rw (c.name_of-name.ensures, six-front (name_of k.result) (name-most k.result), k.ensures) at c.put_front.ensures
+    rw (c.name_of-name.ensures, six-front (name_of k.result) (name-most k.result), k.ensures) at c.put_head.ensures

@@ -1,8 +1,0 @@
--- `answers::list_length` meets its contract: it is that part of the refusal, and the lent bytes are only counted.
--- Assumes nothing.
-use mathlib.Core.Path.{refl, ap}
-use Rattle.answers.specs.Face.{length_of}
-use Rattle.answers.proofs.list_length.Goals as goal
-
-pub returns : goal.returns
-returns c = record { answer = ap length_of c.refusal_of.ensures; bytes = refl }
