@@ -1,4 +1,4 @@
-// DBREF, DBREF1 and DBREF2.
+// DBREF, DBREF1 and DBREF2. Each is a type of its own, since it has fields and columns that the others lack.
 ghost use Rattle.std.specs.Prelude.{◌≡◌};
 ghost use Rattle.dbref.specs.Dbref as specs;
 

@@ -34,28 +34,15 @@ pub fn lex_numbered(line: &[u8], row: usize, exponents: bool) -> Got<NumberedRow
     ensures { result ≡ specs.got_numbered row (taking exponents line.now) }
 {
     let got = lex_values(line, exponents, Faults::none());
-    let (values, places) = got.value;
-    Got {
-        value: NumberedRow::new(row, values, places),
-        faults: got.faults,
-    }
+    got.map(|(values, places)| NumberedRow::new(row, values, places))
 }
 
-// Whether the matrix is given: a `1` in its column.
-fn is_given(line: &[u8]) -> bool
-    ensures { result ≡ specs.given_of line.now }
-{
-    line.get(MtriX::GIVEN) == Some(&b'1')
-}
-
+// An MTRIXn, which is given if a `1` stands in that column.
 pub fn lex_mtrix(line: &[u8], row: usize, exponents: bool) -> Got<MtriX>
     ensures { result ≡ specs.got_mtri_x row (taking exponents line.now) }
 {
     let serial = unsigned(line, MtriX::SERIAL, Faults::none());
     let got = lex_values(line, exponents, serial.faults);
-    let (values, places) = got.value;
-    Got {
-        value: MtriX::new(row, serial.value, values, places, is_given(line)),
-        faults: got.faults,
-    }
+    let given = line.get(MtriX::GIVEN) == Some(&b'1');
+    got.map(|(values, places)| MtriX::new(row, serial.value, values, places, given))
 }
