@@ -24,9 +24,6 @@ put_escaped_one w κs a g = leaves w (λ r s u v e f. lent 0 2 (page-one e f))
 pub put_unsigned_one : One its.put_unsigned.ended (λ M 𝓤. its.put_unsigned.clauses)
 put_unsigned_one w κs a g = leaves w (λ r s u v e f. lent 0 2 (page-one e f))
 
-pub magnitude_one : One its.magnitude.ended (λ M 𝓤. its.magnitude.clauses)
-magnitude_one w κs a g = equation w (λ u v. refl)
-
 pub put_signed_one : One its.put_signed.ended (λ M 𝓤. its.put_signed.clauses)
 put_signed_one w κs a g = leaves w (λ r s u v e f. lent 0 2 (page-one e f))
 

@@ -9,18 +9,15 @@ use borrow.Author.Rules.{rules}
 use Rattle.page.proofs.put_hex.Goals as goal
 
 pub loop-i-init : goal.loop-i-init
-unfolding hex_before hex16
+unfolding hex16
 loop-i-init c = search rules
 
 pub loop-i-preserved : goal.loop-i-preserved
 loop-i-preserved c =
-    let l = c.loop-i in (
-      omega arith,
-      search rules,
-      hex_more l.text l.i l.rest _ c.loop-i-test.true (omega arith) c.hex_digit.ensures ∙ l.invariant.2,
-    )
+    let l = c.loop-i in
+    (search rules, hex_more l.text l.i l.rest _ (omega arith) (omega arith) c.hex_digit.ensures ∙ l.invariant.1)
 
 pub returns : goal.returns
 returns c =
     let l = c.loop-i in
-    c.put_bytes.ensures ∙ ap (put _) (hex_done l.text l.i l.rest _ c.loop-i-test.false l.invariant.2)
+    c.put_bytes.ensures ∙ ap (put _) (hex_done l.text l.i l.rest _ (omega arith) l.invariant.1)
