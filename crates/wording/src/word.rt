@@ -3,7 +3,6 @@ ghost use Rattle.std.specs.Prelude.{◌≡◌, ◌≤◌, get_or};
 ghost use Rattle.wording.specs.Fields as specs;
 
 use line::text::Text;
-use page::magnitude;
 
 // The first word of a field.
 pub(crate) fn head_word(column: u16, sort: u64, places: u8) -> u64
@@ -16,10 +15,7 @@ pub(crate) fn head_word(column: u16, sort: u64, places: u8) -> u64
 pub(crate) fn signed_word(n: i64) -> u64
     ensures { result ≡ specs.twos n }
 {
-    if n < 0 {
-        return 18446744073709551615 - (magnitude(n) - 1);
-    }
-    magnitude(n)
+    n.cast_unsigned()
 }
 
 pub(crate) fn text_word(text: Text) -> u64

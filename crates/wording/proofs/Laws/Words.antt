@@ -11,7 +11,6 @@
 --     front-two       words behind two others, at the front
 --     fills, fills-few, fills_one what is left of lent words, by whether there are enough of them; it is one content
 --     words-listed    a row has two words where the listing shows it, and none elsewhere
---     below-some, twos-below, twos_up    a signed number's word, by whether it is below zero
 -- Assumes nothing.
 use Prim.Native.Nat.{ℕ, suc, ◌+◌, ◌-◌, ◌*◌, ◌/◌, ◌≤◌, ◌<◌}
 use mathlib.Core.Path.{◌≡◌, refl, sym, ◌∙◌}
@@ -19,9 +18,7 @@ use mathlib.Core.Bool.{true, false, cond}
 use mathlib.Core.List.{List, [], ◌∷◌, ◌++◌, append-nil, append_assoc}
 use native.Mathlib.Omega.{arith}
 use native.Mathlib.Numerals.{add-one}
-use borrow.Author.Tests.{ltb-true, lt-ltb, le-ltb}
-use lib.IntN.{ℤ, pos, negsuc, nat_abs}
-use lib.Signed.{lt_z}
+use borrow.Author.Tests.{lt-ltb, le-ltb}
 use lib.ListN.{length, get_or, set, take, drop, length-append}
 use lib.Seq.{sets, sets-eq, take_all}
 use Rattle.layout.specs.Each.{each}
@@ -36,7 +33,7 @@ use Rattle.row.specs.declared.Row.{Row}
 use Rattle.row.specs.declared.Value.{Value}
 use Rattle.row.specs.declared.Value.TheVariants.{Unsigned, Signed, Real, Factor, Words, One, Flag, Nothing}
 use Rattle.layout.specs.Row.{present}
-use Rattle.wording.specs.Fields.{twos, character_words, value_words, row_words, rows_words, over, Fills}
+use Rattle.wording.specs.Fields.{character_words, value_words, row_words, rows_words, over, Fills}
 use Rattle.wording.specs.Put.{Puts}
 
 pub read-any : (l : List ℕ) (n d e : ℕ) → n < length l → get_or l n d ≡ get_or l n e
@@ -114,25 +111,6 @@ row-two l row = go row.1
     go (One c) = character_two l row.0 c
     go (Flag b) = omega arith
     go Nothing = omega arith
-
--- ---- two's complement; y is the number as the machine reads it back
-pub below-some : (y : ℤ) (m : ℕ) → lt_z y (pos 0) ≡ true → m ≡ nat_abs y → 1 ≤ m
-below-some (pos a) m b e = absurd (omega (arith, ltb-true a 0 b))
-below-some (negsuc k) m b e = omega arith
-
-pub twos-below : (z y : ℤ) (m : ℕ) → y ≡ z → lt_z y (pos 0) ≡ true → m ≡ nat_abs y → 18446744073709551615 - (m - 1) ≡ twos z
-twos-below z y m back b e = rw (← back) (go y b e)
-  where
-    go : (y : ℤ) → lt_z y (pos 0) ≡ true → m ≡ nat_abs y → 18446744073709551615 - (m - 1) ≡ twos y
-    go (pos a) b e = absurd (omega (arith, ltb-true a 0 b))
-    go (negsuc k) b e = omega arith
-
-pub twos_up : (z y : ℤ) (m : ℕ) → y ≡ z → lt_z y (pos 0) ≡ false → m ≡ nat_abs y → m ≡ twos z
-twos_up z y m back b e = rw (← back) (go y b e)
-  where
-    go : (y : ℤ) → lt_z y (pos 0) ≡ false → m ≡ nat_abs y → m ≡ twos y
-    go (pos a) b e = e
-    go (negsuc k) b e = let z : ◌≡◌ {A = ℕ} 0 1 = cc in absurd (omega arith)
 
 -- ---- how many there are
 pub two-more : {m n ws : List ℕ} (at i r s : ℕ) → Puts m r ws s n → length ws ≤ 2 → r ≤ at + 2 * i → s ≤ at + 2 * (i + 1)
