@@ -22,13 +22,15 @@ const NAME: Columns = Columns { start: 0, end: 6 };
 fn packed(written: Result<(), Unwritten>) -> u64
     ensures { result ≡ specs.packed written }
 {
-    match written {
-        Ok(()) => 0,
-        Err(Unwritten::NoFit(at)) => {
+    let Err(why) = written else {
+        return 0;
+    };
+    match why {
+        Unwritten::NoFit(at) => {
             let width = at.width() as u64;
             9 * 281474976710656 + at.start as u64 * 4294967296 + width
         }
-        Err(Unwritten::NoRoom) => 8 * 281474976710656 + 80,
+        Unwritten::NoRoom => 8 * 281474976710656 + 80,
     }
 }
 
