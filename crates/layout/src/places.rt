@@ -10,27 +10,18 @@ use row::{Row, Value};
 fn put_place(out: &mut [u8], at: usize, row: Row) -> usize
     ensures { page out.new result ≡ put (page out.old at) (specs.row_places row) }
 {
-    let value = row.1;
-    match value {
-        Value::Unsigned(_) => at,
-        Value::Signed(_) => at,
-        Value::Real(_, places) => put_byte(out, at, places),
-        Value::Factor(_) => at,
-        Value::Words(_) => at,
-        Value::One(_) => at,
-        Value::Flag(_) => at,
-        Value::Nothing => at,
+    if let Value::Real(_, places) = row.1 {
+        return put_byte(out, at, places);
     }
+    at
 }
 
 pub fn put_places(out: &mut [u8], at: usize, rows: [Row; 16]) -> usize
     ensures { page out.new result ≡ put (page out.old at) (specs.places_of rows) }
 {
     let mut next = at;
-    let mut i = 0;
-    while i < 16 {
-        next = put_place(out, next, rows[i]);
-        i += 1;
+    for row in rows {
+        next = put_place(out, next, row);
     }
     next
 }

@@ -12,20 +12,7 @@ use row::{Row, Value};
 fn is_present(value: Value) -> bool
     ensures { result ≡ specs.present value }
 {
-    match value {
-        Value::Unsigned(_) => true,
-        Value::Signed(_) => true,
-        Value::Real(_, _) => true,
-        Value::Factor(_) => true,
-        Value::Words(_) => true,
-        Value::One(character) => match character {
-            Character::At(_) => true,
-            Character::Unreached => true,
-            Character::Absent => false,
-        },
-        Value::Flag(_) => true,
-        Value::Nothing => false,
-    }
+    !matches!(value, Value::One(Character::Absent) | Value::Nothing)
 }
 
 // A character that the line doesn't reach shows as one blank.
@@ -45,12 +32,7 @@ fn put_value(out: &mut [u8], at: usize, line: &[u8], value: Value) -> usize
         Value::Factor(x) => put_hex(out, at, bits_of(x)),
         Value::Words(text) => put_field(out, at, line, Field::Words(text)),
         Value::One(character) => put_field(out, at, line, Field::One(character)),
-        Value::Flag(flag) => {
-            if flag {
-                return put_byte(out, at, b'1');
-            }
-            put_byte(out, at, b'0')
-        }
+        Value::Flag(flag) => put_byte(out, at, if flag { b'1' } else { b'0' }),
         Value::Nothing => at,
     }
 }
@@ -59,14 +41,11 @@ fn put_value(out: &mut [u8], at: usize, line: &[u8], value: Value) -> usize
 fn put_column(out: &mut [u8], at: usize, n: u64) -> usize
     ensures { page out.new result ≡ put (page out.old at) (decimal n) }
 {
-    if n < 10 {
+    if n < 10 || 99 < n {
         return put_unsigned(out, at, n);
     }
-    if 99 < n {
-        return put_unsigned(out, at, n);
-    }
-    let unit = put_byte(out, at, 48 + (n / 10) as u8);
-    put_byte(out, unit, 48 + (n % 10) as u8)
+    let unit = put_byte(out, at, b'0' + (n / 10) as u8);
+    put_byte(out, unit, b'0' + (n % 10) as u8)
 }
 
 // A row that isn't shown puts nothing.
@@ -88,10 +67,8 @@ pub fn put_rows(out: &mut [u8], at: usize, line: &[u8], rows: [Row; 16]) -> usiz
     ensures { page out.new result ≡ put (page out.old at) (specs.rows_bytes line.now rows) }
 {
     let mut next = at;
-    let mut i = 0;
-    while i < 16 {
-        next = put_row(out, next, line, rows[i]);
-        i += 1;
+    for row in rows {
+        next = put_row(out, next, line, row);
     }
     next
 }

@@ -6,9 +6,6 @@ use mir.Facts.{to_z-of_z}
 use Rattle.page.specs.Page.{put}
 use Rattle.layout.proofs.rows.put_value.Goals as goal
 
-pub returns-then-flag : goal.returns-then-flag
-returns-then-flag c = rw c.in-Flag.is (rw c.if-flag.true c.put_byte.ensures)
-
 pub returns-in-Unsigned : goal.returns-in-Unsigned
 returns-in-Unsigned c = rw c.in-Unsigned.is c.put_unsigned.ensures
 
@@ -29,9 +26,6 @@ returns-in-Words c = rw c.in-Words.is c.put_field.ensures
 
 pub returns-in-One : goal.returns-in-One
 returns-in-One c = rw c.in-One.is c.put_field-in-One.ensures
-
-pub returns-else-flag : goal.returns-else-flag
-returns-else-flag c = rw c.in-Flag.is (rw c.if-flag.false c.put_byte-in-Flag.ensures)
 
 pub returns-in-Nothing : goal.returns-in-Nothing
 unfolding put
