@@ -6,7 +6,7 @@
 --     First, AllFit         the first field that doesn't fit, and that there is none
 --     Lowest                the same by column
 --     When                  what writing a sheet answers exactly when, and the lent bytes afterwards
-use Rattle.std.specs.Prelude.{ℕ, ◌-◌, ◌≤◌, ◌<◌, ◌≡◌, ◌↔◌, ◌≢◌, ◌⊎◌, length, drop, Ok, Err}
+use Rattle.std.specs.Prelude.{ℕ, ◌-◌, ◌≤◌, ◌<◌, ◌≡◌, ◌↔◌, ◌≢◌, ◌⊎◌, length, drop, Option, Some, None, Ok, Err}
 use mathlib.Core.List.{List, [], ◌∷◌, ◌++◌, Memᴰ}
 use Rattle.line.specs.declared.columns.Columns.{Columns}
 use Rattle.page.specs.Numerals.{decimal, signed_decimal}
@@ -14,8 +14,7 @@ use Rattle.number.specs.Whole.{with_sign}
 use Rattle.cell.specs.Places.{places_of}
 use Rattle.cell.specs.Text.{fixed}
 use Rattle.cell.specs.Words.{charge_text}
-use Rattle.cell.specs.declared.places.Places.{Places}
-use Rattle.cell.specs.declared.places.Places.TheVariants.{Rounded, NoFit}
+use Rattle.cell.specs.declared.places.Rounded.{Rounded}
 use Rattle.sheet.specs.Ink.{Ink}
 use Rattle.sheet.specs.Sheet.{Written, Cell, ◌holds◌, Sheet, columns_of, line_of}
 use Rattle.sheet.specs.declared.Figure.{Figure}
@@ -27,13 +26,13 @@ abbrev pub Odd : List ℕ → Type 0
 Odd t = (b : ℕ) × Memᴰ b t × ((b < 32) ⊎ (126 < b))
 
 -- a real has no decimal of so many places and ten digits, or one that is too long; the same of one of ANISOU's six
-abbrev pub RealMisfit : ℕ → ℕ → Places → Type 0
-RealMisfit w q (Rounded s n) = w < length (fixed q s n)
-RealMisfit w q NoFit = Unit {0}
+abbrev pub RealMisfit : ℕ → ℕ → Option Rounded → Type 0
+RealMisfit w q (Some r) = w < length (fixed q r.minus r.digits)
+RealMisfit w q None = Unit {0}
 
-abbrev pub FactorMisfit : ℕ → Places → Type 0
-FactorMisfit w (Rounded s n) = w < length (signed_decimal (with_sign s n))
-FactorMisfit w NoFit = Unit {0}
+abbrev pub FactorMisfit : ℕ → Option Rounded → Type 0
+FactorMisfit w (Some r) = w < length (signed_decimal (with_sign r.minus r.digits))
+FactorMisfit w None = Unit {0}
 
 -- what doesn't fit w columns
 abbrev pub FigureMisfit : ℕ → Figure → Type 0

@@ -17,7 +17,7 @@ use borrow.Author.Tests.{leb-true, leb-false, ltb-true, ltb-false, eqb-true, eqb
 use lib.ListN.{length, length-append}
 use lib.Dec.{leb, ltb, eqb}
 use lib.IntN.{ℤ, pos, negsuc, nat_abs}
-use Rattle.std.specs.Prelude.{Ok, Err}
+use Rattle.std.specs.Prelude.{Option, Some, None, Ok, Err}
 use Rattle.line.specs.declared.columns.Columns.{Columns}
 use Rattle.number.specs.Whole.{with_sign}
 use Rattle.number.proofs.Laws.Digits.{value-below}
@@ -28,8 +28,7 @@ use Rattle.cell.specs.Cell.{fitting, real_fits, factor_fits}
 use Rattle.cell.specs.Places.{places_of}
 use Rattle.cell.specs.Text.{fixed}
 use Rattle.cell.specs.Words.{printable, words_fit, lent_fits, charge_text, flag_text, row_fits_of}
-use Rattle.cell.specs.declared.places.Places.{Places}
-use Rattle.cell.specs.declared.places.Places.TheVariants as places
+use Rattle.cell.specs.declared.places.Rounded.{Rounded}
 use Rattle.cell.proofs.Laws.Text.{all_digits, same-said}
 use Rattle.sheet.specs.Ink.{Ink, figure_fits, ink_fits}
 use Rattle.sheet.specs.Sheet.{Written, Cell, ◌holds◌, Sheet, columns_of, cell_fits, line_of, ascend, answer_of, afterwards, Writes}
@@ -86,13 +85,13 @@ unfolding lent_fits
 lent-tells w t = tells-either (eqb (length t) w) (printable t) (tells-other (length t) w) (tells_odd t)
 
 -- ---- numbers
-real-tells : (w q : ℕ) (p : Places) → Tells (real_fits w q p) (RealMisfit w q p)
-real-tells w q (places.Rounded s n) = tells-long w (fixed q s n)
-real-tells w q places.NoFit = tells-some
+real-tells : (w q : ℕ) (p : Option Rounded) → Tells (real_fits w q p) (RealMisfit w q p)
+real-tells w q (Some r) = tells-long w (fixed q r.minus r.digits)
+real-tells w q None = tells-some
 
-factor-tells : (w : ℕ) (p : Places) → Tells (factor_fits w p) (FactorMisfit w p)
-factor-tells w (places.Rounded s n) = tells-long w (signed_decimal (with_sign s n))
-factor-tells w places.NoFit = tells-some
+factor-tells : (w : ℕ) (p : Option Rounded) → Tells (factor_fits w p) (FactorMisfit w p)
+factor-tells w (Some r) = tells-long w (signed_decimal (with_sign r.minus r.digits))
+factor-tells w None = tells-some
 
 -- a flag and a row have a byte at most, so the width tells nothing of them
 given-tells : (w : ℕ) (b : Bool) → 0 < w → Tells (fitting w (flag_text b)) ⊥
