@@ -9,19 +9,12 @@ ghost use Rattle.matrix.specs.Rows as specs;
 use atom::record::Position;
 use transformation::record::Transformation;
 
-// A row that may be set.
-#[derive(Clone, Copy)]
-pub enum Slot {
-    Set(Transformation),
-    Unset,
-}
-
-// What was collected so far.
+// What was collected so far: the rows that are set.
 #[derive(Clone, Copy)]
 pub struct Rows {
-    pub first: Slot,
-    pub second: Slot,
-    pub third: Slot,
+    pub first: Option<Transformation>,
+    pub second: Option<Transformation>,
+    pub third: Option<Transformation>,
 }
 
 // Three rows that are set.
@@ -32,84 +25,60 @@ pub struct Matrix {
     pub third: Transformation,
 }
 
-// The rows with one more, or as they were, since a matrix has no row of that number.
+// A matrix has no row of that number. The rows are as they were.
 #[derive(Clone, Copy)]
-pub enum Collected {
-    Kept(Rows),
-    NoSuchRow(Rows),
-}
-
-// The matrix, or none, since a row is unset.
-#[derive(Clone, Copy)]
-pub enum Handed {
-    Whole(Matrix),
-    RowUnset,
-}
+pub struct NoSuchRow(pub Rows);
 
 impl Rows {
     pub fn none() -> Self
         ensures { result ≡ specs.no_rows }
     {
         Rows {
-            first: Slot::Unset,
-            second: Slot::Unset,
-            third: Slot::Unset,
+            first: None,
+            second: None,
+            third: None,
         }
     }
 }
 
-// A later row replaces an earlier one of its number.
-pub fn with_row(rows: Rows, number: usize, row: Transformation) -> Collected
+// The rows with one more. A later row replaces an earlier one of its number.
+pub fn with_row(rows: Rows, number: usize, row: Transformation) -> Result<Rows, NoSuchRow>
     ensures { result ≡ specs.with_row rows number row }
 {
-    let first = rows.first;
-    let second = rows.second;
-    let third = rows.third;
-    let set = Slot::Set(row);
-    if number == 0 {
-        return Collected::Kept(Rows {
-            first: set,
-            second,
-            third,
-        });
-    }
-    if number == 1 {
-        return Collected::Kept(Rows {
-            first,
-            second: set,
-            third,
-        });
-    }
-    if number == 2 {
-        return Collected::Kept(Rows {
-            first,
-            second,
-            third: set,
-        });
-    }
-    Collected::NoSuchRow(rows)
-}
-
-// The matrix is handed out exactly when all three rows are set.
-pub fn whole(rows: Rows) -> Handed
-    ensures { result ≡ specs.whole rows }
-{
-    let slot_first = rows.first;
-    let Slot::Set(first) = slot_first else {
-        return Handed::RowUnset;
-    };
-    let slot_second = rows.second;
-    let Slot::Set(second) = slot_second else {
-        return Handed::RowUnset;
-    };
-    let slot_third = rows.third;
-    let Slot::Set(third) = slot_third else {
-        return Handed::RowUnset;
-    };
-    Handed::Whole(Matrix {
+    let Rows {
         first,
         second,
         third,
+    } = rows;
+    let set = Some(row);
+    match number {
+        0 => Ok(Rows {
+            first: set,
+            second,
+            third,
+        }),
+        1 => Ok(Rows {
+            first,
+            second: set,
+            third,
+        }),
+        2 => Ok(Rows {
+            first,
+            second,
+            third: set,
+        }),
+        _ => Err(NoSuchRow(rows)),
+    }
+}
+
+// The matrix is handed out exactly when all three rows are set.
+pub fn whole(rows: Rows) -> Option<Matrix>
+    ensures { result ≡ specs.whole rows }
+{
+    Some(Matrix {
+        first: rows.first?,
+        second: rows.second?,
+        third: rows.third?,
     })
 }
 

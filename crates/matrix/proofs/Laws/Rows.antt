@@ -9,58 +9,55 @@ use mathlib.Core.Path.{◌≡◌, refl}
 use mathlib.Core.Logic.{◌≢◌}
 use Prim.Native.Nat.{ℕ, zero, suc, ◌≤◌, ◌<◌}
 use native.Mathlib.Omega.{arith}
+use Rattle.std.proofs.Common.{Option, Some, None, Ok, Err}
 use Rattle.transformation.specs.declared.record.Transformation.{Transformation}
-use Rattle.matrix.specs.declared.Slot.{Slot}
-use Rattle.matrix.specs.declared.Slot.TheVariants.{Set, Unset}
 use Rattle.matrix.specs.declared.Rows.{Rows}
 use Rattle.matrix.specs.declared.Matrix.{Matrix}
-use Rattle.matrix.specs.declared.Collected.TheVariants.{Kept, NoSuchRow}
-use Rattle.matrix.specs.declared.Handed.TheVariants.{Whole, RowUnset}
 use Rattle.matrix.specs.Rows.{slot_of, with_row, whole_by, whole, numbers_of_row}
 
-pub row_far : (m : Rows) (n : ℕ) (r : Transformation) → (n ≡ 0 → ⊥) → (n ≡ 1 → ⊥) → (n ≡ 2 → ⊥) → NoSuchRow m ≡ with_row m n r
+pub row_far : (m : Rows) (n : ℕ) (r : Transformation) → (n ≡ 0 → ⊥) → (n ≡ 1 → ⊥) → (n ≡ 2 → ⊥) → Err (record { field-0 = m }) ≡ with_row m n r
 row_far m zero r a b c = absurd (a refl)
 row_far m (suc zero) r a b c = absurd (b refl)
 row_far m (suc (suc zero)) r a b c = absurd (c refl)
 row_far m (suc (suc (suc n))) r a b c = refl
 
-pub all_set : (m : Rows) {a b c : Transformation} → m.first ≡ Set a → m.second ≡ Set b → m.third ≡ Set c
-    → Whole (record { first = a; second = b; third = c }) ≡ whole m
+pub all_set : (m : Rows) {a b c : Transformation} → m.first ≡ Some a → m.second ≡ Some b → m.third ≡ Some c
+    → Some (record { first = a; second = b; third = c }) ≡ whole m
 all_set m e f g = rw (e, f, g) refl
 
 -- ---- collecting
 pub refused-row : (m : Rows) (n : ℕ) (r : Transformation)
-    → (2 < n → with_row m n r ≡ NoSuchRow m) × (n ≤ 2 → numbers_of_row (with_row m n r) ≡ (0, 0, 0))
+    → (2 < n → with_row m n r ≡ Err (record { field-0 = m })) × (n ≤ 2 → numbers_of_row (with_row m n r) ≡ (0, 0, 0))
 refused-row m zero r = (λ far. absurd (omega arith), λ near. refl)
 refused-row m (suc zero) r = (λ far. absurd (omega arith), λ near. refl)
 refused-row m (suc (suc zero)) r = (λ far. absurd (omega arith), λ near. refl)
 refused-row m (suc (suc (suc n))) r = (λ far. refl, λ near. absurd (omega arith))
 
 module _ (m k : Rows) (r : Transformation) where
-  pub later_stands : (n : ℕ) → with_row m n r ≡ Kept k → slot_of k n ≡ Set r
-  later_stands zero e = let i : record { first = Set r; second = m.second; third = m.third } ≡ k = cc in rw (← i) refl
-  later_stands (suc zero) e = let i : record { first = m.first; second = Set r; third = m.third } ≡ k = cc in rw (← i) refl
-  later_stands (suc (suc zero)) e = let i : record { first = m.first; second = m.second; third = Set r } ≡ k = cc in rw (← i) refl
+  pub later_stands : (n : ℕ) → with_row m n r ≡ Ok k → slot_of k n ≡ Some r
+  later_stands zero e = let i : record { first = Some r; second = m.second; third = m.third } ≡ k = cc in rw (← i) refl
+  later_stands (suc zero) e = let i : record { first = m.first; second = Some r; third = m.third } ≡ k = cc in rw (← i) refl
+  later_stands (suc (suc zero)) e = let i : record { first = m.first; second = m.second; third = Some r } ≡ k = cc in rw (← i) refl
   later_stands (suc (suc (suc n))) e = cc
 
-  pub others_stay : (n j : ℕ) → with_row m n r ≡ Kept k → j ≢ n → slot_of k j ≡ slot_of m j
-  others_stay zero j e other = let i : record { first = Set r; second = m.second; third = m.third } ≡ k = cc in rw (← i) (go j other)
+  pub others_stay : (n j : ℕ) → with_row m n r ≡ Ok k → j ≢ n → slot_of k j ≡ slot_of m j
+  others_stay zero j e other = let i : record { first = Some r; second = m.second; third = m.third } ≡ k = cc in rw (← i) (go j other)
     where
-      go : (j : ℕ) → j ≢ 0 → slot_of (record { first = Set r; second = m.second; third = m.third }) j ≡ slot_of m j
+      go : (j : ℕ) → j ≢ 0 → slot_of (record { first = Some r; second = m.second; third = m.third }) j ≡ slot_of m j
       go zero other = absurd (other refl)
       go (suc zero) other = refl
       go (suc (suc zero)) other = refl
       go (suc (suc (suc j))) other = refl
-  others_stay (suc zero) j e other = let i : record { first = m.first; second = Set r; third = m.third } ≡ k = cc in rw (← i) (go j other)
+  others_stay (suc zero) j e other = let i : record { first = m.first; second = Some r; third = m.third } ≡ k = cc in rw (← i) (go j other)
     where
-      go : (j : ℕ) → j ≢ 1 → slot_of (record { first = m.first; second = Set r; third = m.third }) j ≡ slot_of m j
+      go : (j : ℕ) → j ≢ 1 → slot_of (record { first = m.first; second = Some r; third = m.third }) j ≡ slot_of m j
       go zero other = refl
       go (suc zero) other = absurd (other refl)
       go (suc (suc zero)) other = refl
       go (suc (suc (suc j))) other = refl
-  others_stay (suc (suc zero)) j e other = let i : record { first = m.first; second = m.second; third = Set r } ≡ k = cc in rw (← i) (go j other)
+  others_stay (suc (suc zero)) j e other = let i : record { first = m.first; second = m.second; third = Some r } ≡ k = cc in rw (← i) (go j other)
     where
-      go : (j : ℕ) → j ≢ 2 → slot_of (record { first = m.first; second = m.second; third = Set r }) j ≡ slot_of m j
+      go : (j : ℕ) → j ≢ 2 → slot_of (record { first = m.first; second = m.second; third = Some r }) j ≡ slot_of m j
       go zero other = refl
       go (suc zero) other = refl
       go (suc (suc zero)) other = absurd (other refl)
@@ -68,38 +65,38 @@ module _ (m k : Rows) (r : Transformation) where
   others_stay (suc (suc (suc n))) j e other = cc
 
 -- ---- handing out
-pub handed-set : (m : Rows) (w : Matrix) → whole m ≡ Whole w
-    → (m.first ≡ Set w.first) × (m.second ≡ Set w.second) × (m.third ≡ Set w.third)
+pub handed-set : (m : Rows) (w : Matrix) → whole m ≡ Some w
+    → (m.first ≡ Some w.first) × (m.second ≡ Some w.second) × (m.third ≡ Some w.third)
 handed-set m w e = go m.first m.second m.third e
   where
-    go : (f s t : Slot) → whole_by f s t ≡ Whole w → (f ≡ Set w.first) × (s ≡ Set w.second) × (t ≡ Set w.third)
-    go Unset s t e = (cc, (cc), cc)
-    go (Set a) Unset t e = (cc, (cc), cc)
-    go (Set a) (Set b) Unset e = (cc, (cc), cc)
-    go (Set a) (Set b) (Set c) e =
+    go : (f s t : Option Transformation) → whole_by f s t ≡ Some w → (f ≡ Some w.first) × (s ≡ Some w.second) × (t ≡ Some w.third)
+    go None s t e = (cc, (cc), cc)
+    go (Some a) None t e = (cc, (cc), cc)
+    go (Some a) (Some b) None e = (cc, (cc), cc)
+    go (Some a) (Some b) (Some c) e =
         let i : record { first = a; second = b; third = c } ≡ w = cc in
         (rw (← i) refl, rw (← i) refl, rw (← i) refl)
 
-pub refused_unset : (m : Rows) → whole m ≡ RowUnset → (n : ℕ) × (n ≤ 2) × (slot_of m n ≡ Unset)
+pub refused_unset : (m : Rows) → whole m ≡ None → (n : ℕ) × (n ≤ 2) × (slot_of m n ≡ None)
 refused_unset m e = go m.first m.second m.third refl refl refl e
   where
-    go : (f s t : Slot) → m.first ≡ f → m.second ≡ s → m.third ≡ t → whole_by f s t ≡ RowUnset → (n : ℕ) × (n ≤ 2) × (slot_of m n ≡ Unset)
-    go Unset s t a b c e = (0, omega arith, a)
-    go (Set x) Unset t a b c e = (1, omega arith, b)
-    go (Set x) (Set y) Unset a b c e = (2, omega arith, c)
-    go (Set x) (Set y) (Set z) a b c e = absurd (let z : ◌≡◌ {A = ℕ} 0 1 = cc in omega arith)
+    go : (f s t : Option Transformation) → m.first ≡ f → m.second ≡ s → m.third ≡ t → whole_by f s t ≡ None → (n : ℕ) × (n ≤ 2) × (slot_of m n ≡ None)
+    go None s t a b c e = (0, omega arith, a)
+    go (Some x) None t a b c e = (1, omega arith, b)
+    go (Some x) (Some y) None a b c e = (2, omega arith, c)
+    go (Some x) (Some y) (Some z) a b c e = absurd (let z : ◌≡◌ {A = ℕ} 0 1 = cc in omega arith)
 
-pub unset_refused : (m : Rows) (n : ℕ) → n ≤ 2 → slot_of m n ≡ Unset → whole m ≡ RowUnset
+pub unset_refused : (m : Rows) (n : ℕ) → n ≤ 2 → slot_of m n ≡ None → whole m ≡ None
 unset_refused m zero h e = rw e refl
 unset_refused m (suc zero) h e = go m.first m.second m.third e
   where
-    go : (f s t : Slot) → s ≡ Unset → whole_by f s t ≡ RowUnset
-    go Unset s t e = refl
-    go (Set a) s t e = rw e refl
+    go : (f s t : Option Transformation) → s ≡ None → whole_by f s t ≡ None
+    go None s t e = refl
+    go (Some a) s t e = rw e refl
 unset_refused m (suc (suc zero)) h e = go m.first m.second m.third e
   where
-    go : (f s t : Slot) → t ≡ Unset → whole_by f s t ≡ RowUnset
-    go Unset s t e = refl
-    go (Set a) Unset t e = refl
-    go (Set a) (Set b) t e = rw e refl
+    go : (f s t : Option Transformation) → t ≡ None → whole_by f s t ≡ None
+    go None s t e = refl
+    go (Some a) None t e = refl
+    go (Some a) (Some b) t e = rw e refl
 unset_refused m (suc (suc (suc n))) h e = absurd (omega arith)
