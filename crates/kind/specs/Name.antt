@@ -1,9 +1,7 @@
 -- "Record names have no blanks." A kind's name is the one at its number's place in the list of names.
-use Rattle.std.specs.Prelude.{ℕ, suc, Bool, false, cond, List, [], ◌∷◌, ◌++◌, length, take, eqb}
-use Rattle.line.specs.Bytes.{bytes}
+use Rattle.std.specs.Prelude.{ℕ, suc, Bool, false, cond, List, [], ◌∷◌, eqb}
 use Rattle.kind.specs.Kind.{Named, names, number_of}
 use Rattle.kind.specs.declared.Kind.{Kind}
-use Rattle.kind.specs.declared.name.Name.{Name}
 
 abbrev pub name_at : ℕ → List Named → List ℕ
 name_at place [] = []
@@ -27,10 +25,6 @@ word (b ∷ t) = cond (eqb b 32) [] (b ∷ word t)
 abbrev pub name_of : Kind → List ℕ
 name_of k = word (name_at (number_of k) names)
 
--- a name's six bytes, blanks behind it, and how many of them it has
-abbrev pub six_of : List ℕ → Name
-six_of t = record { text = take 6 (t ++ bytes "      "); length = length t }
-
 -- a row's name among three, and none for any other
-abbrev pub row_name : ℕ → Name → Name → Name → Name
-row_name row first second third = cond (eqb row 0) first (cond (eqb row 1) second (cond (eqb row 2) third (six_of [])))
+abbrev pub row_name : ℕ → List ℕ → List ℕ → List ℕ → List ℕ
+row_name row first second third = cond (eqb row 0) first (cond (eqb row 1) second (cond (eqb row 2) third []))

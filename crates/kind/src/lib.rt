@@ -1,7 +1,7 @@
 // Which kind a line is, by its first bytes, and the name of a kind. A name is looked up as one number, its bytes being the digits.
 #![tactic(auto)]
 
-ghost use Rattle.std.specs.Prelude.{◌≡◌, ◌≤◌, ◌&&◌, [], ◌∷◌, eqb, length, take};
+ghost use Rattle.std.specs.Prelude.{◌≡◌, ◌≤◌, ◌&&◌, eqb, length, take};
 ghost use Rattle.kind.specs.Key.{key_of, kind_by_key, four_of, two_of};
 ghost use Rattle.kind.specs.Kind as specs;
 
@@ -37,18 +37,12 @@ pub enum Kind {
     End,
 }
 
-fn wide(b: u8) -> u64
-    ensures { result ≡ b }
-{
-    b as u64
-}
-
 // The first three bytes as a number.
 fn three(line: &[u8]) -> u64
     requires { 3 ≤ length line.now }
     ensures { result ≡ key_of (take 3 line.now) }
 {
-    (wide(line[0]) * 256 + wide(line[1])) * 256 + wide(line[2])
+    u64::from_be_bytes([0, 0, 0, 0, 0, line[0], line[1], line[2]])
 }
 
 // The first six bytes as a number.
@@ -56,8 +50,7 @@ fn six(line: &[u8]) -> u64
     requires { 6 ≤ length line.now }
     ensures { result ≡ key_of (take 6 line.now) }
 {
-    let front = three(line);
-    ((front * 256 + wide(line[3])) * 256 + wide(line[4])) * 256 + wide(line[5])
+    u64::from_be_bytes([0, 0, line[0], line[1], line[2], line[3], line[4], line[5]])
 }
 
 fn named(key: u64) -> Kind
@@ -96,7 +89,7 @@ fn named(key: u64) -> Kind
     }
 }
 
-// The kinds that atoms only keeps.
+// The kinds that atoms only keeps. They have a table of their own, since a choice among those of `named` would list the same six again.
 fn named_kept(key: u64) -> Kind
     ensures { result ≡ kind_by_key key (specs.kept_names specs.names) }
 {
@@ -126,10 +119,7 @@ fn named_short(key: u64) -> Kind
 fn named_by(atoms: bool, key: u64) -> Kind
     ensures { result ≡ kind_by_key key (specs.names_by atoms) }
 {
-    if atoms {
-        return named_kept(key);
-    }
-    named(key)
+    if atoms { named_kept(key) } else { named(key) }
 }
 
 // Whether the line is the six bytes ENDMDL, and they end a model.
@@ -138,12 +128,7 @@ fn ends_model(mode: Mode, line: &[u8]) -> bool
 {
     match mode {
         Mode::Crate => false,
-        Mode::WwPdb => {
-            if line.len() != 6 {
-                return false;
-            }
-            six(line) == 0x454e444d444c
-        }
+        Mode::WwPdb => line == b"ENDMDL".as_slice(),
     }
 }
 
@@ -163,28 +148,14 @@ fn any_kind(atoms: bool, mode: Mode, line: &[u8]) -> Kind
     Kind::Empty
 }
 
-// Four bytes as one number, the first in the lowest place, as a processor has them from memory at once; and two.
-fn four(a: u8, b: u8, c: u8, d: u8) -> u64
-    ensures { result ≡ key_of (d ∷ c ∷ b ∷ a ∷ []) }
-{
-    ((d as u64 * 256 + c as u64) * 256 + b as u64) * 256 + a as u64
-}
-
-fn two(a: u8, b: u8) -> u64
-    ensures { result ≡ key_of (b ∷ a ∷ []) }
-{
-    b as u64 * 256 + a as u64
-}
-
-// Whether a line begins with four bytes that make one number and two that make another.
-fn begins(line: &[u8], front: u64, behind: u64) -> bool
+// Whether a line begins with four bytes that make one number and two that make another, the first of each in the lowest place, as a processor has
+// them from memory at once.
+fn begins(line: &[u8], front: u32, behind: u16) -> bool
     requires { 6 ≤ length line.now }
     ensures { result ≡ (eqb (four_of line.now) front && eqb (two_of line.now) behind) }
 {
-    if four(line[0], line[1], line[2], line[3]) != front {
-        return false;
-    }
-    two(line[4], line[5]) == behind
+    u32::from_le_bytes([line[0], line[1], line[2], line[3]]) == front
+        && u16::from_le_bytes([line[4], line[5]]) == behind
 }
 
 // The kind of a line, under atoms only or not, in a mode. Nearly every line of a file is an atom. Apart from the look among all names, which is

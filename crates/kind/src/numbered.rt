@@ -12,16 +12,10 @@ fn row_place(first: usize, row: usize) -> usize
     requires { first < 255 }
     ensures { result ≡ specs.row_place first row }
 {
-    if row == 0 {
-        return first;
+    match row {
+        0..=2 => first + row,
+        _ => NO_KIND,
     }
-    if row == 1 {
-        return first + 1;
-    }
-    if row == 2 {
-        return first + 2;
-    }
-    NO_KIND
 }
 
 // The place of its name in the list of names.

@@ -1,19 +1,19 @@
 -- Laws of the number of a text.
 --     key_more          one byte more of a text's front: the number's next digit
 --     Bytes, is_bytes    the numbers of a line are bytes, and a test of that for a text
---     key_lt            the number of n bytes is below 256 ^ n
 --     bytes-front       the front of a line passes the test
 --     first_byte        so its first is a byte, and the rest are
 --     same_key          texts of one length are the same when their numbers are
---     same_length       texts of other lengths aren't the same
+--     same-pointwise    what `==` says of two texts
 -- Assumes nothing.
-use Prim.Native.Nat.{ℕ, zero, suc, ◌+◌, ◌*◌, ◌^◌, ◌≤◌, ◌<◌}
+use Prim.Native.Nat.{ℕ, zero, suc, ◌+◌, ◌*◌, ◌<◌}
 use mathlib.Core.Path.{◌≡◌, refl, sym, ap, ◌∙◌}
-use mathlib.Core.Bool.{Bool, true, false, ◌&&◌, and-true, and-false, and_assoc}
+use mathlib.Core.Bool.{Bool, true, false, ◌&&◌, and-true, and_assoc}
 use mathlib.Core.List.{List, [], ◌∷◌}
-use native.Mathlib.Nat.{pow-suc, suc_inj, le_of_suc-le-suc, not-suc-le-zero}
+use native.Mathlib.Nat.{suc_inj, le_of_suc-le-suc, not-suc-le-zero}
 use native.Mathlib.Omega.{arith}
-use lib.Dec.{T, ltb, eqb, ltb→lt, lt→ltb, lit<}
+use lib.Pointwise.{pointwise}
+use lib.Dec.{T, ltb, eqb, ltb→lt, lt→ltb}
 use lib.ListN.{length, take, get_or}
 use lib.Ieee.Fits.{and_l, and_r, and_i}
 use mir.Syntax.{w8}
@@ -33,14 +33,6 @@ key_more l n h = key_from-more 0 l n h
 
 abbrev pub Bytes : List ℕ → Type 0
 Bytes l = (i : ℕ) → Fits w8 (get_or l i 0)
-
--- K * 256 + b < 256 ^ n * 256, where K < 256 ^ n and b < 256
-pub key_lt : (l : List ℕ) → Bytes l → (n : ℕ) → n ≤ length l → key_of (take n l) < 256 ^ n
-key_lt l f zero h = lit< tt
-key_lt l f (suc n) h =
-    let k = key_lt l f n (omega arith) in
-    let b = f n in
-    rw (key_more l n h, pow-suc) (omega arith)
 
 abbrev pub is_bytes : List ℕ → Bool
 is_bytes [] = true
@@ -80,8 +72,9 @@ key_from-same m n (a ∷ s) (b ∷ t) e p q =
 pub same_key : (s t : List ℕ) → length s ≡ length t → T (is_bytes s) → T (is_bytes t) → same s t ≡ eqb (key_of s) (key_of t)
 same_key s t e p q = sym (key_from-same 0 0 s t e p q)
 
-pub same_length : (s t : List ℕ) → (length s ≡ length t → ⊥) → same s t ≡ false
-same_length [] [] n = absurd (n refl)
-same_length [] (b ∷ t) n = refl
-same_length (a ∷ s) [] n = refl
-same_length (a ∷ s) (b ∷ t) n = rw (same_length s t (λ e. n (ap suc e))) (and-false (eqb a b))
+-- the library's word for it
+pub same-pointwise : (s t : List ℕ) → same s t ≡ pointwise eqb s t
+same-pointwise [] [] = refl
+same-pointwise [] (b ∷ t) = refl
+same-pointwise (a ∷ s) [] = refl
+same-pointwise (a ∷ s) (b ∷ t) = ap (λ r. eqb a b && r) (same-pointwise s t)

@@ -1,14 +1,15 @@
 -- Laws of a kind's number.
+--     place-near, place-far     the place of a row, by whether it is above 2
 --     by_kind          a test that the kinds of all names pass, and EMPTY's, is passed by the kind of a line
 --     kind-known       so the kind of a line has a number below `no_kind`
 --     number-tells     and such a number is one kind's alone
 -- Assumes nothing.
-use Prim.Native.Nat.{ℕ, suc, ◌+◌, ◌<◌}
+use Prim.Native.Nat.{ℕ, suc, ◌+◌, ◌≤◌, ◌<◌}
 use mathlib.Core.Path.{◌≡◌, refl, sym, ap, ◌∙◌}
 use mathlib.Core.Bool.{Bool, true, false, cond, ◌&&◌}
 use mathlib.Core.List.{List, [], ◌∷◌}
 use native.Mathlib.Omega.{arith}
-use borrow.Author.Tests.{eqb-true, ltb-true}
+use borrow.Author.Tests.{ne_eqb, eqb-true, ltb-true}
 use lib.ListN.{length, take}
 use lib.Dec.{T, eqb, ltb}
 use lib.Ieee.Bits.{is_true}
@@ -17,6 +18,18 @@ use Rattle.line.specs.declared.options.Mode.{Mode}
 use Rattle.kind.specs.Kind.{Named, names, names_by, short_names, same, kind_by, ends_model, kind_of, no_kind, row_place, number_of}
 use Rattle.kind.specs.declared.Kind.{Kind}
 use Rattle.kind.specs.declared.Kind.TheVariants.{Empty, Header, Remark, Atom, Hetatm, Anisou, Cryst1, Scale, Origx, Mtrix, Model, Master, Dbref, Dbref1, Dbref2, Seqres, Seqadv, Modres, Ssbond, Endmdl, Ter, End}
+
+-- ---- the place of a row
+pub place-near : (first row : ℕ) → row ≤ 2 → first + row ≡ row_place first row
+unfolding row_place
+place-near first ℕ.zero h = omega arith
+place-near first (suc ℕ.zero) h = omega arith
+place-near first (suc (suc ℕ.zero)) h = omega arith
+place-near first (suc (suc (suc row))) h = absurd (omega arith)
+
+pub place-far : (first row : ℕ) → 2 < row → no_kind ≡ row_place first row
+unfolding row_place
+place-far first row h = rw (ne_eqb row 0 (λ e. omega arith), ne_eqb row 1 (λ e. omega arith), ne_eqb row 2 (λ e. omega arith)) refl
 
 -- ---- the kind of a line is a name's, or EMPTY
 module _ (test : Kind → Bool) where

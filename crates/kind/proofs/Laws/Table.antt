@@ -3,23 +3,17 @@
 --     names-six        so are those that count, under atoms only or not
 --     kind_by_key_lem      a name is found by its number
 --     kind-by_front    so is the front of a line
---     same_whole       a whole line is a name when their numbers are the same
---     key_found        what a `match` finds at a number
---     none_found       what a `match` leaves to its last arm
 -- Assumes nothing.
 use Prim.Native.Nat.{ℕ, ◌≤◌}
 use mathlib.Core.Path.{◌≡◌, refl, ◌∙◌}
 use mathlib.Core.Bool.{Bool, true, false, ◌&&◌}
 use mathlib.Core.List.{List, [], ◌∷◌}
-use native.Mathlib.Omega.{arith}
 use lib.Dec.{T, eqb, eqb→eq}
 use lib.ListN.{length, take}
-use lib.Seq.{length-take-le, take_all}
+use lib.Seq.{length-take-le}
 use lib.Ieee.Fits.{and_l, and_r}
-use borrow.Author.Tests.{ne_eqb}
 use Rattle.kind.specs.Key.{key_of, kind_by_key}
-use Rattle.kind.specs.Kind.{Named, same, names_by, kind_by}
-use Rattle.kind.specs.declared.Kind.TheVariants.{Empty}
+use Rattle.kind.specs.Kind.{Named, names_by, kind_by}
 use Rattle.kind.proofs.Laws.Key.{Bytes, is_bytes, bytes-front, same_key}
 
 -- whether a text is w bytes
@@ -48,27 +42,3 @@ kind_by_key_lem s w (n ∷ ns) e b t =
 pub kind-by_front : (w : ℕ) (ns : List Named) (l : List ℕ) → Bytes l → w ≤ length l → T (are_names w ns)
     → kind_by (take w l) ns ≡ kind_by_key (key_of (take w l)) ns
 kind-by_front w ns l f h t = kind_by_key_lem (take w l) w ns (length-take-le w l h) (bytes-front w l f) t
-
-pub same_whole : (l name : List ℕ) → Bytes l → length l ≡ length name → T (is_bytes name)
-    → same l name ≡ eqb (key_of (take (length name) l)) (key_of name)
-same_whole l name f e b =
-    let w = length name in
-    let all = take_all w l (omega arith) in
-    rw all (same_key l name e (rw all at (bytes-front w l f)) b)
-
-pub key_found : {key k : ℕ} (ns : List Named) → key ≡ k → kind_by_key k ns ≡ kind_by_key key ns
-key_found ns e = rw e refl
-
--- X, and the number is no name's, in the order in which a `match` says so
-abbrev pub NoneOf : Type 0 → ℕ → List Named → Type 0
-NoneOf X key [] = X
-NoneOf X key (n ∷ ns) = NoneOf (X × (key ≡ key_of n.name → ⊥)) key ns
-
-none_of : (X : Type 0) (key : ℕ) (ns : List Named) → NoneOf X key ns → X × (Empty ≡ kind_by_key key ns)
-none_of X key [] h = (h, refl)
-none_of X key (n ∷ ns) h =
-    let r = none_of (X × (key ≡ key_of n.name → ⊥)) key ns h in
-    (r.0.0, rw (ne_eqb key (key_of n.name) r.0.1) r.1)
-
-pub none_found : (key : ℕ) (ns : List Named) → NoneOf (Unit {0}) key ns → Empty ≡ kind_by_key key ns
-none_found key ns h = (none_of (Unit {0}) key ns h).1

@@ -1,22 +1,11 @@
--- `kind::numbered::row_place` meets its contract: the tests are those of `row_place`.
+-- `kind::numbered::row_place` meets its contract: the first three rows stand one after the other.
 -- Assumes nothing.
-use mathlib.Core.Path.{refl}
-use borrow.Author.Tests.{eq-eqb, ne_eqb}
-use Rattle.kind.specs.Kind.{row_place}
+use native.Mathlib.Omega.{arith}
 use Rattle.kind.proofs.numbered.row_place.Goals as goal
+use Rattle.kind.proofs.Laws.Number.{place-near, place-far}
 
-pub returns-then-row-eq0 : goal.returns-then-row-eq0
-unfolding row_place
-returns-then-row-eq0 c = rw (eq-eqb _ _ c.if-row-eq0.true) refl
+pub returns-in-0-to-2 : goal.returns-in-0-to-2
+returns-in-0-to-2 c = place-near c.args.first c.args.row (omega arith)
 
-pub returns-then-row-eq1 : goal.returns-then-row-eq1
-unfolding row_place
-returns-then-row-eq1 c = rw (ne_eqb _ _ c.if-row-eq0.false, eq-eqb _ _ c.if-row-eq1.true) refl
-
-pub returns-then-row-eq2 : goal.returns-then-row-eq2
-unfolding row_place
-returns-then-row-eq2 c = rw (ne_eqb _ _ c.if-row-eq0.false, ne_eqb _ _ c.if-row-eq1.false, eq-eqb _ _ c.if-row-eq2.true) refl
-
-pub returns : goal.returns
-unfolding row_place
-returns c = rw (ne_eqb _ _ c.if-row-eq0.false, ne_eqb _ _ c.if-row-eq1.false, ne_eqb _ _ c.if-row-eq2.false) refl
+pub returns-in_default : goal.returns-in_default
+returns-in_default c = place-far c.args.first c.args.row (omega arith)
