@@ -1,5 +1,5 @@
 // Which line it is, and whose.
-ghost use Rattle.std.specs.Prelude.{◌≡◌, ◌≤◌, take};
+ghost use Rattle.std.specs.Prelude.{◌≡◌};
 ghost use Rattle.kind.specs.Name.{name_of};
 ghost use Rattle.page.specs.Page.{page, put};
 ghost use Rattle.account.specs.Account as specs;
@@ -56,21 +56,11 @@ fn put_words(out: &mut [u8], at: usize, kind: Kind, line: &[u8]) -> usize
     put_atom(out, at, line)
 }
 
-// The first so many bytes of six.
-fn put_front(out: &mut [u8], at: usize, text: [u8; 6], n: usize) -> usize
-    requires { n ≤ 6 }
-    ensures { page out.new result ≡ put (page out.old at) (take n text) }
-{
-    put_bytes(out, at, &text[..n])
-}
-
 // The name of a kind.
 fn put_kind(out: &mut [u8], at: usize, kind: Kind) -> usize
     ensures { page out.new result ≡ put (page out.old at) (name_of kind) }
 {
-    let name = name_of(kind);
-    let text = name.text;
-    put_front(out, at, text, name.length)
+    put_bytes(out, at, name_of(kind))
 }
 
 // Which line it is, of which kind and whose.

@@ -29,8 +29,7 @@ const LONGEST: usize = 4096;
 fn put_name(out: &mut [u8], at: usize, item: LexItem, number: usize) -> usize
     ensures { page out.new result ≡ put (page out.old at) (head_rows (name_of (kind_of_item item)) number) }
 {
-    let name = name_of(item.kind());
-    put_head(out, at, &name.text[..name.length], number as u64)
+    put_head(out, at, name_of(item.kind()), number as u64)
 }
 
 // The one emitter.
