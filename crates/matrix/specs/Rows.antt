@@ -20,7 +20,7 @@ abbrev pub with_row : Rows → ℕ → Transformation → Result Rows NoSuchRow
 with_row m zero r = Ok (record { first = Some r; second = m.second; third = m.third })
 with_row m (suc zero) r = Ok (record { first = m.first; second = Some r; third = m.third })
 with_row m (suc (suc zero)) r = Ok (record { first = m.first; second = m.second; third = Some r })
-with_row m (suc (suc (suc n))) r = Err (record { field-0 = m })
+with_row m (suc (suc (suc n))) r = Err (record { rows = m })
 
 abbrev pub whole_by : Option Transformation → Option Transformation → Option Transformation → Option Matrix
 whole_by None b c = None

@@ -27,7 +27,9 @@ pub struct Matrix {
 
 // A matrix has no row of that number. The rows are as they were.
 #[derive(Clone, Copy)]
-pub struct NoSuchRow(pub Rows);
+pub struct NoSuchRow {
+    pub rows: Rows,
+}
 
 impl Rows {
     pub fn none() -> Self
@@ -45,29 +47,15 @@ impl Rows {
 pub fn with_row(rows: Rows, number: usize, row: Transformation) -> Result<Rows, NoSuchRow>
     ensures { result ≡ specs.with_row rows number row }
 {
-    let Rows {
-        first,
-        second,
-        third,
-    } = rows;
     let set = Some(row);
     match number {
-        0 => Ok(Rows {
-            first: set,
-            second,
-            third,
-        }),
+        0 => Ok(Rows { first: set, ..rows }),
         1 => Ok(Rows {
-            first,
             second: set,
-            third,
+            ..rows
         }),
-        2 => Ok(Rows {
-            first,
-            second,
-            third: set,
-        }),
-        _ => Err(NoSuchRow(rows)),
+        2 => Ok(Rows { third: set, ..rows }),
+        _ => Err(NoSuchRow { rows }),
     }
 }
 

@@ -13,15 +13,16 @@ use mathlib.Core.List.{List}
 use lib.Dec.{lit≤, lit<}
 use lib.Pow.{pow_pos, pow-add}
 use lib.Ieee.{Float}
+use Rattle.std.proofs.Common.{Option, Some, None, unwrap_or}
 use Rattle.real.specs.Near.{NearOver, apart}
 use Rattle.real.specs.Wide.{raised, lowered, real_with}
+use Rattle.real.specs.Real.{real}
 use Rattle.real.specs.declared.Real.{Real}
-use Rattle.real.specs.declared.Real.TheVariants.{R, NotR}
 use Rattle.real.proofs.Laws.Quotient.{ten_pos}
 use Rattle.real.proofs.Laws.WideReal.{with-is, said-finer}
 use Rattle.line.specs.Columns.{part_of}
 use Rattle.line.specs.declared.columns.Columns.{Columns}
-use Rattle.field.specs.Number.{real_at, or_r, zero_real}
+use Rattle.field.specs.Number.{real_at, zero_real}
 use Rattle.transformation.specs.Transformation.{transformation_of}
 use Rattle.atom.specs.Atom.{position_of}
 use Rattle.matrix.specs.Bound.{Held, HeldRow, HeldPosition}
@@ -70,7 +71,7 @@ pub near-held : (s : Bool) (m a b : ℕ) (x : Float) → NearOver 126 s (m * 10 
 near-held s m a b x h few short =
     record { is_minus = s; parts = h.parts; value = h.value; small = small h.parts m a b few short h.close }
 
-pub real-held : (on : Bool) (t : List ℕ) {x : Float} {p : ℕ} → real_with on t ≡ R x p → Held x
+pub real-held : (on : Bool) (t : List ℕ) {x : Float} {p : ℕ} → real_with on t ≡ Some (real x p) → Held x
 real-held on t {x} {p} e =
     let w = with-is on t e in
     near-held w.is_minus w.m (raised w.lower w.x p) (lowered w.lower w.x p) x (said-finer on w.near) w.few w.high
@@ -84,9 +85,9 @@ module _ (on : Bool) (l : List ℕ) where
   unfolding real_at
   field-held at = go (real_with on (part_of l at)) refl
     where
-      go : (r : Real) → real_with on (part_of l at) ≡ r → Held (or_r zero_real r)
-      go (R x p) e = real-held on (part_of l at) e
-      go NotR e = zero_held
+      go : (r : Option Real) → real_with on (part_of l at) ≡ r → Held (unwrap_or r (real zero_real 0)).value
+      go (Some r) e = real-held on (part_of l at) {x = r.value} {p = r.places} e
+      go None e = zero_held
 
   pub position_held : HeldPosition (position_of on l)
   position_held = record { x = field-held _; y = field-held _; z = field-held _ }

@@ -1,5 +1,4 @@
--- Rows by the tests that the code makes, and what collecting them comes to.
---     row_far, all_set                by the tests: no row above 2, and a matrix of three that are set
+-- What collecting rows comes to.
 --     refused-row                     13 exactly for a number above 2, and the rows are then as they were
 --     later_stands, others_stay       a kept row is the one of its number, whatever was there, and the others are as they were
 --     handed-set                      a matrix that is handed out has the three rows that are set
@@ -15,19 +14,9 @@ use Rattle.matrix.specs.declared.Rows.{Rows}
 use Rattle.matrix.specs.declared.Matrix.{Matrix}
 use Rattle.matrix.specs.Rows.{slot_of, with_row, whole_by, whole, numbers_of_row}
 
-pub row_far : (m : Rows) (n : ℕ) (r : Transformation) → (n ≡ 0 → ⊥) → (n ≡ 1 → ⊥) → (n ≡ 2 → ⊥) → Err (record { field-0 = m }) ≡ with_row m n r
-row_far m zero r a b c = absurd (a refl)
-row_far m (suc zero) r a b c = absurd (b refl)
-row_far m (suc (suc zero)) r a b c = absurd (c refl)
-row_far m (suc (suc (suc n))) r a b c = refl
-
-pub all_set : (m : Rows) {a b c : Transformation} → m.first ≡ Some a → m.second ≡ Some b → m.third ≡ Some c
-    → Some (record { first = a; second = b; third = c }) ≡ whole m
-all_set m e f g = rw (e, f, g) refl
-
 -- ---- collecting
 pub refused-row : (m : Rows) (n : ℕ) (r : Transformation)
-    → (2 < n → with_row m n r ≡ Err (record { field-0 = m })) × (n ≤ 2 → numbers_of_row (with_row m n r) ≡ (0, 0, 0))
+    → (2 < n → with_row m n r ≡ Err (record { rows = m })) × (n ≤ 2 → numbers_of_row (with_row m n r) ≡ (0, 0, 0))
 refused-row m zero r = (λ far. absurd (omega arith), λ near. refl)
 refused-row m (suc zero) r = (λ far. absurd (omega arith), λ near. refl)
 refused-row m (suc (suc zero)) r = (λ far. absurd (omega arith), λ near. refl)
