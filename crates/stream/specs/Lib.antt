@@ -1,3 +1,2 @@
--- The words that the contracts of this crate cite: what is printed for a part of the input, and what a read answers.
+-- The words that the contracts of this crate cite: what is printed for a part of the input.
 pub mod Printed
-pub mod Got

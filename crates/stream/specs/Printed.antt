@@ -4,10 +4,7 @@
 use Rattle.std.specs.Prelude.{ℕ, ◌+◌, ◌^◌, ◌≤◌, ◌<◌, ◌≡◌, List, length, take, drop, replicate}
 use Rattle.parts.specs.Feed.{part_text, part_state, parts_state}
 use Rattle.carry.specs.Held.{State, begun}
-use Rattle.stream.specs.declared.output.Printed.{Printed}
-use Rattle.stream.specs.declared.output.Printed.TheVariants.{Upto, Failed}
-use Rattle.stream.specs.declared.output.Went.{Went}
-use Rattle.stream.specs.declared.output.Went.TheVariants as went
+use Rattle.carry.specs.declared.held.Held.{Held}
 
 -- what is held at the begin
 abbrev pub start : State
@@ -34,13 +31,7 @@ pub record Stands (all : List ℕ) (done : ℕ) (text : List ℕ) : Type 0 where
   pub bytes : text ≡ take (length text) (drop done all)
   pub short : length all < 2 ^ 64
 
--- so many bytes are handed over, if all of them could be
-abbrev pub Reaches : ℕ → Printed → Type 0
-Reaches n (Upto m) = m ≡ n
-Reaches n Failed = Unit {0}
-
--- all that there is to print for a part is handed over, if it could be, and what it leaves is held
-abbrev pub GoesOn : State → List ℕ → List ℕ → Went → Type 0
-GoesOn s part kept (went.On held done) =
+-- all that there is to print for a part is handed over, and what it leaves is held
+abbrev pub GoesOn : State → List ℕ → List ℕ → Held → ℕ → Type 0
+GoesOn s part kept held done =
     (◌≡◌ {A = State} (record { held = held; kept = kept }) (part_state s part)) × (done ≡ length (part_text s part))
-GoesOn s part kept went.Failed = Unit {0}

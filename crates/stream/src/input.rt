@@ -1,31 +1,18 @@
 // One read. A pipe or a terminal hands its bytes over in parts.
-ghost use Rattle.std.specs.Prelude.{length};
-ghost use Rattle.stream.specs.Got.{Within};
+ghost use Rattle.std.specs.Prelude.{◌≤◌, length, IfOk};
 
-use std::io::{Error, ErrorKind, Read};
+use std::io::{Error, ErrorKind, Read, Result};
 
-// How many bytes were read, none at the end of the input; or that they can't be read, and why.
-#[derive(Clone, Copy)]
-pub enum Got {
-    Bytes(usize),
-    Failed(Error),
-}
-
-// A read that a signal interrupts is tried again: a proved loop has to end, so it counts its turns down from a number that no run uses up.
-pub fn read_some<S: Read>(source: &mut S, space: &mut [u8]) -> Got
-    ensures { Within (length space.old) result }
+// How many bytes were read, none at the end of the input; or why they can't be read. A read that a signal interrupts is tried again: a proved loop has
+// to end, so there are as many turns as no run uses up.
+pub fn read_some<S: Read>(source: &mut S, space: &mut [u8]) -> Result<usize>
+    ensures { IfOk result (λ n. n ≤ length space.old) }
 {
-    let mut turns = u64::MAX;
-    while 0 < turns {
+    for _ in 0..u64::MAX {
         match source.read(space) {
-            Ok(n) => return Got::Bytes(n),
-            Err(why) => {
-                if why.kind() != ErrorKind::Interrupted {
-                    return Got::Failed(why);
-                }
-            }
+            Err(why) if why.kind() == ErrorKind::Interrupted => {}
+            answer => return answer,
         }
-        turns -= 1;
     }
-    Got::Failed(Error::from(ErrorKind::Interrupted))
+    Err(Error::from(ErrorKind::Interrupted))
 }

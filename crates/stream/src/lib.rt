@@ -2,8 +2,8 @@
 // waits for the next.
 #![tactic(auto)]
 
-use crate::input::{Got, read_some};
-use crate::output::{Went, print_last, print_part};
+use crate::input::read_some;
+use crate::output::{print_last, print_part};
 use crate::reason::fail;
 use carry::held::Held;
 use std::io::Read;
@@ -26,27 +26,21 @@ pub fn list_from<R: Print + Eprint, S: Read>(rt: &R, source: &mut S) {
     let mut kept = [0u8; 1024];
     let mut held = Held::none(1);
     let mut space = [0u8; 65536];
-    let mut turns = MOST_READS;
-    while 0 < turns {
+    for _turn in 0..MOST_READS {
         let n = match read_some(source, &mut space) {
-            Got::Bytes(n) => n,
-            Got::Failed(why) => {
+            Ok(n) => n,
+            Err(why) => {
                 fail(rt, "pdblist: standard input", why);
                 return;
             }
         };
         if n == 0 {
-            print_last(rt, held, &kept);
+            let _ = print_last(rt, held, &kept);
             return;
         }
-        let Went::On {
-            held: next,
-            done: _,
-        } = print_part(rt, held, &mut kept, &space[..n])
-        else {
+        let Ok((next, _)) = print_part(rt, held, &mut kept, &space[..n]) else {
             return;
         };
         held = next;
-        turns -= 1;
     }
 }

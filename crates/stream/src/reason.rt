@@ -6,9 +6,8 @@ use std::io::Error;
 pub fn fail(rt: &impl Eprint, what: &str, why: Error) {
     let all = InlineText::<256>::of(why);
     let text = all.as_str();
-    let words = match text.split_once(" (os error ") {
-        Some((words, _)) => words,
-        None => text,
-    };
+    let words = text
+        .split_once(" (os error ")
+        .map_or(text, |(words, _)| words);
     let _ = eprintln!(rt; "{what}: {words}");
 }

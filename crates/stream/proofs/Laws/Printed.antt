@@ -9,7 +9,7 @@
 --     came-first, came-next           part behind part
 --     comes-next, few-next            a read's part behind those before it
 -- Assumes nothing.
-use Prim.Native.Nat.{ℕ, suc, ◌+◌, ◌-◌, ◌*◌, ◌^◌, ◌≤◌, ◌<◌}
+use Prim.Native.Nat.{ℕ, suc, ◌+◌, ◌*◌, ◌^◌, ◌≤◌, ◌<◌}
 use mathlib.Core.Path.{◌≡◌, refl, sym, ap, ◌∙◌}
 use mathlib.Core.Bool.{Bool, true, false, cond}
 use mathlib.Core.List.{List, [], ◌∷◌, ◌++◌}
@@ -189,7 +189,7 @@ module _ (s : State) (space : List ℕ) (n turns : ℕ) (came : Came s) (few : s
   pub comes-next : Comes s (take n space)
   comes-next = record { came = came; size = omega (arith, length-take n space); few = omega (arith, length-take n space) }
 
-  pub few-next : (t : State) → t ≡ part_state s (take n space) → t.held.number + most * (turns - 1) < 2 ^ 64
-  few-next t e =
+  pub few-next : (t : State) (left : ℕ) → left < turns → t ≡ part_state s (take n space) → t.held.number + most * left < 2 ^ 64
+  few-next t left fewer e =
       let number = ap (λ (y : State). y.held.number) e in
       omega (arith, part-number s (take n space), length-take n space)

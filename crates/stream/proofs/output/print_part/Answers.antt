@@ -36,7 +36,7 @@ pub loop-at-preserved : goal.loop-at-preserved
 loop-at-preserved g c =
     let turn = c.loop-at in
     let call = c.feed-fed in
-    let all = rw c.in-Upto.is at c.print_next.ensures in (
+    let all = c.in_ok-done.ensures in (
       call.auto.out ∙ turn.invariant.0,
       turn.invariant.1,
       due-next _ _ c.requires _ _ _ turn.invariant.2 _ _ _ _ call.ensures _ all,
