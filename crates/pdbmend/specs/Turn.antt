@@ -1,14 +1,12 @@
 -- What there is to write for lines, on two outputs: "standard input to standard output line by line, with a row on standard error for each change and
 -- for each line that was left cut". A line ends at LF; the LF, and a CR just before it, stand behind the mended line as they stood behind the line. A
 -- last piece that no LF ends is a line, and keeps a CR at its end.
-use Rattle.std.specs.Prelude.{ℕ, suc, ◌+◌, ◌-◌, ◌<◌, ◌≡◌, Bool, true, false, cond, List, [], ◌∷◌, ◌++◌, length, take, drop, eqb, ltb}
+use Rattle.std.specs.Prelude.{ℕ, suc, ◌+◌, ◌-◌, ◌≡◌, Bool, true, false, cond, List, [], ◌∷◌, ◌++◌, length, take, drop, eqb, ltb}
 use Rattle.page.specs.Page.{page, put}
 use Rattle.repair.specs.Repair.{line_for, rows_for}
 use Rattle.repair.specs.declared.Repaired.{Repaired}
 use Rattle.walker.specs.Lines.{number_behind}
 use Rattle.pdbmend.specs.Held.{State, state, none, text_of, stop, size_in, most_kept, filled}
-use Rattle.pdbmend.specs.declared.output.Went.{Went}
-use Rattle.pdbmend.specs.declared.output.Went.TheVariants.{On, Failed}
 use Rattle.pdbmend.specs.declared.turn.Turned.{Turned}
 
 -- ---- what is written on the two outputs
@@ -98,8 +96,3 @@ pub record Turns (x : Turn) (at : ℕ) (out rows written told kept : List ℕ) (
   pub offset : r.at ≡ at + x.taken
   pub puts : page written r.n ≡ put (page out 0) x.says.out
   pub tells : page told r.rows ≡ put (page rows 0) x.says.rows
-
--- there is room for one byte more
-abbrev pub Fits : Went → Type 0
-Fits (On held) = held.n < most_kept
-Fits Failed = Unit {0}

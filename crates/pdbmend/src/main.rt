@@ -6,8 +6,8 @@ mod output;
 mod turn;
 
 use crate::held::Held;
-use crate::output::{Went, write_last, write_part};
-use stream::input::{Got, read_some};
+use crate::output::{write_last, write_part};
+use stream::input::read_some;
 use stream::reason::fail;
 
 // More reads than any run makes: a proved loop has to end.
@@ -20,23 +20,21 @@ fn main(rt: HostRuntime) {
     let mut kept = [0u8; 1026];
     let mut held = Held::none(1);
     let mut space = [0u8; 65536];
-    let mut turns = MOST_READS;
-    while 0 < turns {
+    for _ in 0..MOST_READS {
         let n = match read_some(&mut source, &mut space) {
-            Got::Bytes(n) => n,
-            Got::Failed(why) => {
+            Ok(n) => n,
+            Err(why) => {
                 fail(&errors, "pdbmend: standard input", why);
                 return;
             }
         };
         if n == 0 {
-            write_last(&output, &errors, held, &kept);
+            let _ = write_last(&output, &errors, held, &kept);
             return;
         }
-        let Went::On(next) = write_part(&output, &errors, held, &mut kept, &space[..n]) else {
+        let Ok(next) = write_part(&output, &errors, held, &mut kept, &space[..n]) else {
             return;
         };
         held = next;
-        turns -= 1;
     }
 }

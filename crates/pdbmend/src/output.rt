@@ -1,42 +1,34 @@
 // What there is to write for a part of the input, and at its end.
-ghost use Rattle.std.specs.Prelude.{◌≡◌, ◌<◌, ◌≤◌, length};
-ghost use Rattle.pdbmend.specs.Turn as turns;
+ghost use Rattle.std.specs.Prelude.{◌≡◌, ◌<◌, ◌≤◌, length, IfOk};
 
 use crate::held::Held;
 use crate::turn::{put_text, turn};
+use std::io::Result;
 use stream::reason::fail;
 
-// Writes what there is for each of the two outputs, or says why it can't.
+// Writes what there is for each of the two outputs, or says on standard error why standard output can't be written.
 fn hand_over(
     output: &impl Print,
     errors: &(impl Print + Eprint),
     text: &[u8],
     rows: &[u8],
-) -> bool {
-    if let Err(why) = output.write_all(text) {
-        fail(errors, "pdbmend: standard output", why);
-        return false;
-    }
-    errors.write_all(rows).is_ok()
+) -> Result<()> {
+    output
+        .write_all(text)
+        .inspect_err(|why| fail(errors, "pdbmend: standard output", *why))?;
+    errors.write_all(rows)
 }
 
-// What is held behind a part; or that something couldn't be written.
-#[derive(Clone, Copy)]
-pub enum Went {
-    On(Held),
-    Failed,
-}
-
-// Writes the lines that a part finishes, one after the other.
+// Writes the lines that a part finishes, one after the other, and answers what is held behind the part.
 pub fn write_part(
     output: &impl Print,
     errors: &(impl Print + Eprint),
     held: Held,
     kept: &mut [u8; 1026],
     part: &[u8],
-) -> Went
+) -> Result<Held>
     requires { held.n < 1026 }
-    ensures { turns.Fits result }
+    ensures { IfOk result (λ next. next.n < 1026) }
 {
     let mut out = [0u8; 4096];
     let mut rows = [0u8; 65536];
@@ -44,13 +36,11 @@ pub fn write_part(
     let mut at = 0;
     while at < part.len() {
         let turned = turn(h, kept, part, at, &mut out, &mut rows);
-        if !hand_over(output, errors, &out[..turned.n], &rows[..turned.rows]) {
-            return Went::Failed;
-        }
+        hand_over(output, errors, &out[..turned.n], &rows[..turned.rows])?;
         h = turned.held;
         at = turned.at;
     }
-    Went::On(h)
+    Ok(h)
 }
 
 // Writes the last line, if no LF ended it.
@@ -59,7 +49,7 @@ pub fn write_last(
     errors: &(impl Print + Eprint),
     held: Held,
     kept: &[u8; 1026],
-) -> bool
+) -> Result<()>
     requires { held.n < 1026 }
 {
     let mut out = [0u8; 4096];
