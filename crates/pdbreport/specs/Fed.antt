@@ -13,10 +13,6 @@ use Rattle.lexitem.specs.declared.answer.Answer.{Answer}
 use Rattle.lexitem.specs.declared.answer.Outcome.TheVariants.{Refused}
 use Rattle.walker.specs.Lines.{number_behind}
 use Rattle.pdbreport.specs.Told.{answer_of, fresh, accounts_of, summary_of}
-use Rattle.pdbreport.specs.declared.step.Went.{Went}
-use Rattle.pdbreport.specs.declared.step.Went.TheVariants.{On, Failed}
-use Rattle.pdbreport.specs.declared.step.Took.{Took}
-use Rattle.pdbreport.specs.declared.step.Took.TheVariants as took
 
 -- ---- the line that is held, if it has a number and so many bytes
 unfoldable pub held_line : ℕ → List ℕ → List ℕ
@@ -118,12 +114,3 @@ pub record Takes (x : Progress) (t : List ℕ) (at : ℕ) (y : Progress) (next :
   pub further : at < next
   pub within : next ≤ at + length t
   pub leaves : y ≡ fed_all x (take (next - at) t)
-
-abbrev pub Steps : Progress → List ℕ → ℕ → List ℕ → List ℕ → Went → Type 0
-Steps x t at ledger kept (On held next) = Takes x t at (progress ledger held kept) next
-Steps x t at ledger kept Failed = Unit {0}
-
--- all of a part was taken
-abbrev pub TakesAll : Progress → List ℕ → List ℕ → List ℕ → Took → Type 0
-TakesAll x part ledger kept (took.All held) = progress ledger held kept ≡ fed_all x part
-TakesAll x part ledger kept took.Failed = Unit {0}

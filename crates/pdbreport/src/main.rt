@@ -8,11 +8,12 @@ ghost use Rattle.pdbreport.specs.Fed as specs;
 mod step;
 mod tell;
 
-use crate::step::{Took, take_part};
+use crate::step::take_part;
 use crate::tell::{hand_over, tell_held};
 use carry::held::Held;
 use ledger::summary::put_summary;
-use stream::input::{Got, read_some};
+use std::io::Result;
+use stream::input::read_some;
 use stream::reason::fail;
 
 // More reads than any run makes: a proved loop has to end, and a line has to have a number.
@@ -25,10 +26,10 @@ fn print_summary(
     kept: &[u8; 1024],
     ledger: &[u64; 69],
     text: &[u8],
-)
+) -> Result<()>
     requires { specs.Sums (specs.progress ledger.now held kept.now) text.now }
 {
-    hand_over(rt, text);
+    hand_over(rt, text)
 }
 
 // Tells of the line that the end of the input ends, if a byte of it came.
@@ -37,27 +38,30 @@ fn tell_last(
     held: Held,
     kept: &[u8; 1024],
     ledger: &mut [u64; 69],
-) -> bool
+) -> Result<()>
     requires { specs.Came (specs.progress ledger.old held kept.now) 0 }
     ensures { ledger.new ≡ specs.last_ledger (specs.progress ledger.old held kept.now) }
 {
     if held.total == 0 {
-        return true;
+        return Ok(());
     }
     tell_held(rt, held, kept, ledger, held.total)
 }
 
 // What there is to print at the end of the input.
-fn finish(rt: &(impl Print + Eprint), held: Held, kept: &[u8; 1024], ledger: &[u64; 69])
+fn finish(
+    rt: &(impl Print + Eprint),
+    held: Held,
+    kept: &[u8; 1024],
+    ledger: &[u64; 69],
+) -> Result<()>
     requires { specs.Came (specs.progress ledger.now held kept.now) 0 }
 {
     let mut all = *ledger;
-    if !tell_last(rt, held, kept, &mut all) {
-        return;
-    }
+    tell_last(rt, held, kept, &mut all)?;
     let mut out = [0u8; 4096];
     let n = put_summary(&mut out, 0, &all);
-    print_summary(rt, held, kept, ledger, &out[..n]);
+    print_summary(rt, held, kept, ledger, &out[..n])
 }
 
 fn main(rt: HostRuntime) {
@@ -66,23 +70,21 @@ fn main(rt: HostRuntime) {
     let mut ledger = [0u64; 69];
     let mut held = Held::none(1);
     let mut space = [0u8; 65536];
-    let mut turns = MOST_READS;
-    while 0 < turns {
+    for _turn in 0..MOST_READS {
         let n = match read_some(&mut source, &mut space) {
-            Got::Bytes(n) => n,
-            Got::Failed(why) => {
+            Ok(n) => n,
+            Err(why) => {
                 fail(&rt, "pdbreport: standard input", why);
                 return;
             }
         };
         if n == 0 {
-            finish(&rt, held, &kept, &ledger);
+            let _ = finish(&rt, held, &kept, &ledger);
             return;
         }
-        let Took::All(next) = take_part(&rt, held, &mut kept, &mut ledger, &space[..n]) else {
+        let Ok(next) = take_part(&rt, held, &mut kept, &mut ledger, &space[..n]) else {
             return;
         };
         held = next;
-        turns -= 1;
     }
 }

@@ -10,17 +10,13 @@ use lexer::{excess, lex_line};
 use lexitem::answer::{Answer, Outcome, Refusal};
 use lexitem::fault::LineFaults;
 use line::options::Options;
+use std::io::Result;
 use stream::reason::fail;
 
-// Writes a text, or says why it can't.
-pub fn hand_over(rt: &(impl Print + Eprint), text: &[u8]) -> bool {
-    match rt.write_all(text) {
-        Ok(()) => true,
-        Err(why) => {
-            fail(rt, "pdbreport: standard output", why);
-            false
-        }
-    }
+// Writes a text, or says on standard error why it can't.
+pub fn hand_over(rt: &(impl Print + Eprint), text: &[u8]) -> Result<()> {
+    rt.write_all(text)
+        .inspect_err(|why| fail(rt, "pdbreport: standard output", *why))
 }
 
 // Prints what is due for the line that is held, if it has so many bytes. What is known is there for the condition alone.
@@ -31,7 +27,7 @@ fn print_account(
     ledger: &[u64; 69],
     size: usize,
     text: &[u8],
-) -> bool
+) -> Result<()>
     requires { specs.Due (specs.progress ledger.now held kept.now) size text.now }
 {
     hand_over(rt, text)
@@ -46,15 +42,15 @@ fn tell(
     size: usize,
     line: &[u8],
     answer: Answer,
-) -> bool
+) -> Result<()>
     requires { specs.Next (specs.progress ledger.old held kept.now) size line.now answer }
     ensures { ledger.new ≡ specs.held_ledger ledger.old held.number size kept.now }
 {
     let mut out = [0u8; 4096];
     let n = put_account(&mut out, 0, line, answer);
-    let is_written = print_account(rt, held, kept, ledger, size, &out[..n]);
+    let written = print_account(rt, held, kept, ledger, size, &out[..n]);
     enter(ledger, line, answer);
-    is_written
+    written
 }
 
 // Of one that is refused by its length.
@@ -64,7 +60,7 @@ fn tell_over(
     kept: &[u8],
     ledger: &mut [u64; 69],
     size: usize,
-) -> bool
+) -> Result<()>
     requires { (specs.Came (specs.progress ledger.old held kept.now) 0) × (specs.Ends held size) × (1024 < size) }
     ensures { ledger.new ≡ specs.held_ledger ledger.old held.number size kept.now }
 {
@@ -84,7 +80,7 @@ fn tell_front(
     kept: &[u8],
     ledger: &mut [u64; 69],
     size: usize,
-) -> bool
+) -> Result<()>
     requires { (specs.Came (specs.progress ledger.old held kept.now) 0) × (specs.Ends held size) × (size ≤ 1024) × (size ≤ length kept.now) }
     ensures { ledger.new ≡ specs.held_ledger ledger.old held.number size kept.now }
 {
@@ -100,7 +96,7 @@ pub fn tell_held(
     kept: &[u8; 1024],
     ledger: &mut [u64; 69],
     size: usize,
-) -> bool
+) -> Result<()>
     requires { (specs.Came (specs.progress ledger.old held kept.now) 0) × (specs.Ends held size) }
     ensures { ledger.new ≡ specs.held_ledger ledger.old held.number size kept.now }
 {

@@ -179,8 +179,8 @@ module _ (x : Progress) (space : List ℕ) (n turns : ℕ) (came : Came x (65536
   pub came-part : Came x (length (take n space))
   came-part = came-less x (65536 * turns) (length (take n space)) came (omega (arith, length-take n space))
 
-  pub came-next : (y : Progress) → y ≡ fed_all x (take n space) → Came y (65536 * (turns - 1))
-  came-next y e = came-more x y (take n space) (65536 * turns) (65536 * (turns - 1)) came e (omega (arith, length-take n space))
+  pub came-next : (y : Progress) (left : ℕ) → left < turns → y ≡ fed_all x (take n space) → Came y (65536 * left)
+  came-next y left fewer e = came-more x y (take n space) (65536 * turns) (65536 * left) came e (omega (arith, length-take n space))
 
 -- ---- the end of the input
 pub came-sums : (x : Progress) (ws text : List ℕ) → Came x 0 → ws ≡ last_ledger x → text ≡ summary ws → Sums x text

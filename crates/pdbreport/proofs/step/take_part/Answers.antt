@@ -17,14 +17,14 @@ step-requires g c =
 
 pub loop-at-smaller : goal.loop-at-smaller
 loop-at-smaller g c =
-    let took = rw c.in-On.is at c.step.ensures in
+    let took = c.in_ok-took.ensures in
     let further = took.further in
     omega (arith, c.loop-at-test.true)
 
 pub loop-at-preserved : goal.loop-at-preserved
 loop-at-preserved g c =
     let turn = c.loop-at in
-    let took = rw c.in-On.is at c.step.ensures in
+    let took = c.in_ok-took.ensures in
     loop_next _ _ _ _ turn.invariant.0 turn.invariant.1 _ _ took
 
 pub returns : goal.returns

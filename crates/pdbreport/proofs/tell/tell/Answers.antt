@@ -18,8 +18,8 @@ slice_bounds-print_account-end g c =
     let short = next-short _ _ _ _ c.requires in
     sym (length-take-le _ _ (omega (arith, put-within _ _ _ _ c.put_account-n.ensures (length-replicate {A = ℕ} 4096 0) short)))
 
-pub print_account-is_written-requires : goal.print_account-is_written-requires
-print_account-is_written-requires g c =
+pub print_account-written-requires : goal.print_account-written-requires
+print_account-written-requires g c =
     let next = c.requires in
     next-due _ _ _ _ next _ (front-put _ _ _ _ c.put_account-n.ensures (length-replicate {A = ℕ} 4096 0) (next-short _ _ _ _ next))
 
