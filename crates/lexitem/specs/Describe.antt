@@ -9,7 +9,7 @@ use Rattle.header.specs.Header.{header_table, header_of, header_fields}
 use Rattle.remark.specs.Remark.{remark_table, remark_of, remark_fields}
 use Rattle.atom.specs.Atom.{atom_table, atom_of, anisou_table, anisou_of, atom_fields, anisou_fields}
 use Rattle.crystal.specs.Crystal.{has_z, crystal_table, crystal_of, crystal_fields}
-use Rattle.transformation.specs.Transformation.{transformation_table, scale_of, origx_of, mtrix_table, mtrix_of, scale_fields, origx_fields, mtrix_fields}
+use Rattle.transformation.specs.Transformation.{transformation_table, numbered_of, mtrix_table, mtrix_of, numbered_fields, mtrix_fields}
 use Rattle.model.specs.Model.{model_table, model_of, model_fields}
 use Rattle.master.specs.Master.{master_table, master_of, master_fields}
 use Rattle.seqres.specs.Seqres.{seqres_table, seqres_of, seqres_fields}
@@ -59,8 +59,8 @@ describe Atom = plainly atom_table (λ g. item.Atom (atom_of false g.options.exp
 describe Hetatm = plainly atom_table (λ g. item.Atom (atom_of true g.options.exponents g.line))
 describe Anisou = plainly anisou_table (λ g. item.Anisou (anisou_of g.line))
 describe Cryst1 = parted 55 has_z crystal_table (λ g. item.Crystal (crystal_of g.options.exponents g.line))
-describe (Scale row) = plainly transformation_table (λ g. item.Scale (scale_of row g.options.exponents g.line))
-describe (Origx row) = plainly transformation_table (λ g. item.OrigX (origx_of row g.options.exponents g.line))
+describe (Scale row) = plainly transformation_table (λ g. item.Scale (numbered_of row g.options.exponents g.line))
+describe (Origx row) = plainly transformation_table (λ g. item.OrigX (numbered_of row g.options.exponents g.line))
 describe (Mtrix row) = plainly mtrix_table (λ g. item.MtriX (mtrix_of row g.options.exponents g.line))
 describe Model = moded model_table (λ mode l. item.Model (model_of mode l))
 describe Master = plainly master_table (λ g. item.Master (master_of g.line))
@@ -102,8 +102,8 @@ fields_of (item.Remark v) = remark_fields v
 fields_of (item.Atom v) = atom_fields v
 fields_of (item.Anisou v) = anisou_fields v
 fields_of (item.Crystal v) = crystal_fields v
-fields_of (item.Scale v) = scale_fields v
-fields_of (item.OrigX v) = origx_fields v
+fields_of (item.Scale v) = numbered_fields v
+fields_of (item.OrigX v) = numbered_fields v
 fields_of (item.MtriX v) = mtrix_fields v
 fields_of (item.Model v) = model_fields v
 fields_of (item.Master v) = master_fields v

@@ -5,10 +5,10 @@ use Rattle.line.specs.Given.{Given}
 use Rattle.kind.specs.declared.Kind.{Kind}
 use Rattle.lexitem.specs.Describe.{fields_by, item_of}
 use Rattle.lexitem.specs.declared.item.LexItem.{LexItem}
-use Rattle.lexitem.specs.declared.read.GotItem.{GotItem}
+use Rattle.line.specs.declared.fault.Got.{Got}
 
-abbrev pub bare_of : LexItem → GotItem
+abbrev pub bare_of : LexItem → Got LexItem
 bare_of item = record { value = item; faults = no_faults }
 
-abbrev pub got_item : Kind → Given → GotItem
+abbrev pub got_item : Kind → Given → Got LexItem
 got_item k g = record { value = item_of k g; faults = table_noted g (fields_by k g) no_faults }

@@ -26,7 +26,7 @@ pub fn bound_of(kind: Kind) -> Bound
         Kind::Cryst1 => Bound::Least(Crystal::SPACEGROUP.start as usize),
         Kind::Seqadv => Bound::Least(Seqadv::COMMENT as usize),
         Kind::Modres => Bound::Least(Modres::COMMENT as usize),
-        Kind::Ssbond => Bound::Least(SSBond::OTHER_INSERTION as usize + 1),
+        Kind::Ssbond => Bound::Least(SSBond::SECOND.insertion as usize + 1),
         _ => Bound::Free,
     }
 }

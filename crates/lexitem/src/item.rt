@@ -27,8 +27,8 @@ use seqres::record::Seqres;
 use seqres::rows::seqres_rows;
 use ssbond::record::SSBond;
 use ssbond::rows::ssbond_rows;
-use transformation::record::{MtriX, OrigX, Scale};
-use transformation::rows::{mtrix_rows, origx_rows, scale_rows};
+use transformation::record::{MtriX, NumberedRow};
+use transformation::rows::{mtrix_rows, numbered_rows};
 
 #[derive(Clone, Copy)]
 pub enum LexItem {
@@ -38,8 +38,8 @@ pub enum LexItem {
     Atom(Atom),
     Anisou(Anisou),
     Crystal(Crystal),
-    Scale(Scale),
-    OrigX(OrigX),
+    Scale(NumberedRow),
+    OrigX(NumberedRow),
     MtriX(MtriX),
     Model(Model),
     Master(Master),
@@ -101,8 +101,8 @@ pub fn rows_of(item: LexItem) -> Rows
         LexItem::Atom(atom) => atom_rows(atom),
         LexItem::Anisou(anisou) => anisou_rows(anisou),
         LexItem::Crystal(crystal) => crystal_rows(crystal),
-        LexItem::Scale(scale) => scale_rows(scale),
-        LexItem::OrigX(origx) => origx_rows(origx),
+        LexItem::Scale(scale) => numbered_rows(scale),
+        LexItem::OrigX(origx) => numbered_rows(origx),
         LexItem::MtriX(mtrix) => mtrix_rows(mtrix),
         LexItem::Model(model) => model_rows(model),
         LexItem::Master(master) => master_rows(master),

@@ -27,7 +27,7 @@ use Rattle.field.specs.Text.{text_within}
 use Rattle.model.specs.Model.{model_table, model_of, model_fields}
 use Rattle.seqadv.specs.Seqadv.{has_target, seqadv_table, seqadv_of, target_of, seqadv_fields}
 use Rattle.seqres.specs.Seqres.{triple_row}
-use Rattle.ssbond.specs.Ssbond.{has_tail, ssbond_table, ssbond_of, tail_of, tail_places, ssbond_fields}
+use Rattle.ssbond.specs.Ssbond.{has_tail, ssbond_table, ssbond_of, tail_of, ssbond_fields}
 use Rattle.kind.specs.declared.Kind.{Kind}
 use Rattle.kind.specs.declared.Kind.TheVariants.{Empty, Header, Remark, Atom, Hetatm, Anisou, Cryst1, Scale, Origx, Mtrix, Model, Master, Dbref, Dbref1, Dbref2, Seqres, Seqadv, Modres, Ssbond, Endmdl, Ter, End}
 use Rattle.lexitem.specs.Describe.{bound_of, table_of, fields_by, item_of, fields_of, atom_in}
@@ -163,7 +163,7 @@ module _ (g : Given) where
 
   ssbond-shown : (b : Bool)
       → Shows g (ssbond_table b)
-      (ssbond_fields (record { first = (ssbond_of on l).first; second = (ssbond_of on l).second; tail = tail_of b on l; places = tail_places b on l }))
+      (ssbond_fields (record { first = (ssbond_of on l).first; second = (ssbond_of on l).second; tail = tail_of b on l }))
   ssbond-shown true = (refl, refl)
   ssbond-shown false = (refl, refl)
 

@@ -22,10 +22,10 @@ pub returns-in-Crystal : goal.returns-in-Crystal
 returns-in-Crystal c = rw c.in-Crystal.is c.crystal_rows.ensures
 
 pub returns-in-Scale : goal.returns-in-Scale
-returns-in-Scale c = rw c.in-Scale.is c.scale_rows.ensures
+returns-in-Scale c = rw c.in-Scale.is c.numbered_rows.ensures
 
 pub returns-in-OrigX : goal.returns-in-OrigX
-returns-in-OrigX c = rw c.in-OrigX.is c.origx_rows.ensures
+returns-in-OrigX c = rw c.in-OrigX.is c.numbered_rows-in-OrigX.ensures
 
 pub returns-in-MtriX : goal.returns-in-MtriX
 returns-in-MtriX c = rw c.in-MtriX.is c.mtrix_rows.ensures
