@@ -1,48 +1,36 @@
 // Trim takes off bytes 9 to 13 and 32.
-ghost use Rattle.std.specs.Prelude.{◌≡◌};
+ghost use Rattle.std.specs.Prelude.{◌≡◌, not, position};
 ghost use Rattle.number.specs.Trim.{white, leading, kept, trimmed, end_trimmed, span_of};
 
-// Whether trim takes the byte off.
-fn is_white(b: u8) -> bool
-    ensures { result ≡ white b }
+// Whether trim leaves the byte.
+fn stays(b: u8) -> bool
+    ensures { result ≡ not (white b) }
 {
-    if b == 32 {
-        return true;
-    }
-    if b < 9 {
-        return false;
-    }
-    b <= 13
+    b != 32 && (b < 9 || 13 < b)
+}
+
+// Where the first byte that stays is.
+fn first_left(text: &[u8]) -> Option<usize>
+    ensures { result ≡ position (λ b. not (white b)) text.now }
+{
+    text.iter().position(|b| stays(*b))
 }
 
 // How many bytes trim takes off the front.
 pub fn leading_white(text: &[u8]) -> usize
     ensures { result ≡ leading text.now }
 {
-    let mut i = 0;
-    while i < text.len() {
-        if is_white(text[i]) {
-            i += 1;
-        } else {
-            return i;
-        }
-    }
-    i
+    first_left(text).unwrap_or(text.len())
 }
 
 // How many bytes are left once trim has been at the end.
 pub fn kept_length(text: &[u8]) -> usize
     ensures { result ≡ kept text.now }
 {
-    let mut n = text.len();
-    while 0 < n {
-        if is_white(text[n - 1]) {
-            n -= 1;
-        } else {
-            return n;
-        }
+    match text.iter().rposition(|b| stays(*b)) {
+        Some(last) => last + 1,
+        None => 0,
     }
-    n
 }
 
 // The text without what trim takes off its end.

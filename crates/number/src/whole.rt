@@ -18,23 +18,20 @@ pub fn read_run(before: u64, text: &[u8]) -> Run
     ensures { result ≡ specs.run_of before 0 text.now }
 {
     let mut value = before;
-    let mut i = 0;
-    while i < text.len() {
-        let b = text[i];
-        if b < 48 {
+    for (i, b) in text.iter().enumerate() {
+        if *b < 48 || 57 < *b {
             return Run { value, count: i };
         }
-        if 57 < b {
-            return Run { value, count: i };
-        }
-        let d = (b - 48) as u64;
+        let d = (*b - 48) as u64;
         if (18446744073709551615 - d) / 10 < value {
             return Run { value, count: i };
         }
         value = value * 10 + d;
-        i += 1;
     }
-    Run { value, count: i }
+    Run {
+        value,
+        count: text.len(),
+    }
 }
 
 // One or more digits and nothing else.
@@ -55,30 +52,21 @@ pub(crate) fn read_digits(text: &[u8]) -> Option<u64>
 pub fn begins(byte: u8, text: &[u8]) -> bool
     ensures { result ≡ specs.begins byte text.now }
 {
-    if text.len() == 0 {
-        return false;
-    }
-    text[0] == byte
+    text.starts_with(&[byte])
 }
 
 // The text behind its plus, if it has one.
 fn after_plus(text: &[u8]) -> &[u8]
     ensures { result.now ≡ specs.after_plus text.now }
 {
-    if begins(43, text) {
-        return &text[1..];
-    }
-    text
+    text.strip_prefix(b"+").unwrap_or(text)
 }
 
 // The text behind its sign, if it has one.
 pub fn after_sign(text: &[u8]) -> &[u8]
     ensures { result.now ≡ specs.after_sign text.now }
 {
-    if begins(43, text) {
-        return &text[1..];
-    }
-    if begins(45, text) {
+    if begins(43, text) || begins(45, text) {
         return &text[1..];
     }
     text
@@ -90,27 +78,14 @@ pub fn read_unsigned(text: &[u8]) -> Option<u64>
     read_digits(after_plus(trim(text)))
 }
 
-// A number without a minus, up to 2^63-1.
-fn plus_signed(n: u64) -> Option<i64>
-    ensures { result ≡ specs.signed_from false n }
+// A number behind a minus or not, within 64 bits.
+fn with_sign(minus: bool, n: u64) -> Option<i64>
+    ensures { result ≡ specs.signed_from minus n }
 {
-    if n <= 9223372036854775807 {
-        return Some(n as i64);
+    if minus {
+        return 0i64.checked_sub_unsigned(n);
     }
-    None
-}
-
-// A number behind a minus, down to -2^63.
-fn minus_signed(n: u64) -> Option<i64>
-    ensures { result ≡ specs.signed_from true n }
-{
-    if n <= 9223372036854775807 {
-        return Some(0 - (n as i64));
-    }
-    if n == 9223372036854775808 {
-        return Some(-9223372036854775808);
-    }
-    None
+    0i64.checked_add_unsigned(n)
 }
 
 pub fn read_signed(text: &[u8]) -> Option<i64>
@@ -118,8 +93,5 @@ pub fn read_signed(text: &[u8]) -> Option<i64>
 {
     let t = trim(text);
     let n = read_digits(after_sign(t))?;
-    if begins(45, t) {
-        return minus_signed(n);
-    }
-    plus_signed(n)
+    with_sign(begins(45, t), n)
 }

@@ -1,6 +1,6 @@
 // Decimals with an exponent: a plain decimal, then `e` or `E`, an optional sign, at least one digit, in at most ten bytes. The written number is
 // its sign, M, p and the exponent.
-ghost use Rattle.std.specs.Prelude.{◌≡◌, ◌≤◌, length};
+ghost use Rattle.std.specs.Prelude.{◌≡◌, ◌≤◌, length, position};
 ghost use Rattle.number.specs.Wide as specs;
 
 use crate::decimal::{Decimal, read_plain};
@@ -18,24 +18,14 @@ pub struct Wide {
 fn is_mark(b: u8) -> bool
     ensures { result ≡ specs.mark b }
 {
-    if b == 101 {
-        return true;
-    }
-    b == 69
+    b == 101 || b == 69
 }
 
-// Where the first `e` or `E` stands, or the length.
-fn mark_at(text: &[u8]) -> usize
-    ensures { result ≡ specs.mark_at text.now }
+// Where the first `e` or `E` stands.
+fn first_mark(text: &[u8]) -> Option<usize>
+    ensures { result ≡ position specs.mark text.now }
 {
-    let mut i = 0;
-    while i < text.len() {
-        if is_mark(text[i]) {
-            return i;
-        }
-        i += 1;
-    }
-    i
+    text.iter().position(|b| is_mark(*b))
 }
 
 // What stands before a mark, with what stands behind it.
@@ -57,10 +47,7 @@ fn marked_in(text: &[u8]) -> Option<Wide>
     requires { length text.now ≤ 10 }
     ensures { result ≡ specs.marked_in text.now }
 {
-    let at = mark_at(text);
-    if text.len() <= at {
-        return None;
-    }
+    let at = first_mark(text)?;
     marked_parts(&text[..at], &text[at + 1..])
 }
 

@@ -3,19 +3,23 @@
 --     digit_low, -high, -yes                       whether a byte is a digit, by the tests
 --     value_ge, value-below                        the number is no less than what stood before, and below 10 ^ w for w digits
 --     value-append, digits_append, digits-at       two texts, one behind the other, and one byte of a text
---     begins-long, -first, -none                   what a text begins with
---     plus_yes, -no, sign-plus, -minus, -none      a text behind its sign, by the tests
+--     begins-long, starts-begins                   what a text begins with
+--     plus_stripped, sign-plus, -minus, -none      a text behind its sign, by the tests
 --     after_sign-le                                it is no longer
 -- Assumes nothing.
 use Prim.Native.Nat.{ℕ, zero, suc, ◌+◌, ◌-◌, ◌*◌, ◌^◌, ◌≤◌, ◌<◌}
 use mathlib.Core.Path.{◌≡◌, refl, sym, ap, ◌∙◌}
-use mathlib.Core.Bool.{true, false, ◌&&◌, and-false}
+use mathlib.Core.Bool.{Bool, true, false, ◌&&◌, and-false, and-true}
 use mathlib.Core.List.{List, [], ◌∷◌, ◌++◌}
 use native.Mathlib.Nat.{mul-le-mul_right, mul_assoc, lt_of_lt_of_le, mul-one, pow-succ', pow-le-pow_right, one-mul, zero-lt-suc}
 use native.Mathlib.Omega.{arith}
-use borrow.Author.Tests.{le-leb, lt-leb, leb-true, ne_eqb}
+use borrow.Author.Tests.{le-leb, lt-leb, leb-true, eq-eqb, ne_eqb, eqb-true}
 use lib.ListN.{length, take, drop, get_or, length-drop}
 use lib.Dec.{leb, eqb}
+use Rattle.std.specs.List.{starts_with}
+use Rattle.std.specs.Prelude.{nat_eq, Option, Some, None, MatchOption, unwrap_or}
+use Rattle.std.specs.Borrow.{Bor}
+use lib.Pointwise.{pointwise}
 use Rattle.number.proofs.Laws.Choice.{and_left, and_right, and_assoc, clash}
 use Rattle.number.proofs.Laws.Trim.{rest_from}
 use Rattle.number.specs.Whole.{digit, digits, joined, value_from, value_of, begins, after_plus, after_sign}
@@ -90,25 +94,34 @@ unfolding begins
 begins-long b [] e = absurd (clash e refl)
 begins-long b (x ∷ t) e = omega arith
 
-pub begins-first : (b : ℕ) (t : List ℕ) → 0 < length t → eqb (get_or t 0 0) b ≡ begins b t
-unfolding begins
-begins-first b [] h = absurd (omega arith)
-begins-first b (x ∷ t) h = refl
+eqb_turned : (a b : ℕ) → eqb a b ≡ eqb b a
+eqb_turned a b = go (eqb a b) refl
+  where
+    go : (r : Bool) → eqb a b ≡ r → r ≡ eqb b a
+    go true e = sym (eq-eqb b a (sym (eqb-true a b e)))
+    go false e = sym (ne_eqb b a (λ q. clash (eq-eqb a b (sym q)) e))
 
-pub begins-none : (b : ℕ) (t : List ℕ) → length t ≡ 0 → false ≡ begins b t
+pub starts-begins : (b : ℕ) (t : List ℕ) → starts_with nat_eq t (b ∷ []) ≡ begins b t
 unfolding begins
-begins-none b [] h = refl
-begins-none b (x ∷ t) h = absurd (omega arith)
+starts-begins b [] = refl
+starts-begins b (x ∷ t) = and-true (nat_eq b x) ∙ eqb_turned b x
+
+-- by what the library says of a text that begins with a plus or not
+plus-begins : (t : List ℕ) → pointwise nat_eq (take 1 t) (43 ∷ []) ≡ begins 43 t
+unfolding begins
+plus-begins [] = refl
+plus-begins (x ∷ t) = and-true (nat_eq x 43)
 
 module _ (t : List ℕ) where
-  pub plus_yes : begins 43 t ≡ true → take (length t - 1) (drop 1 t) ≡ after_plus t
+  pub plus_stripped : (r : Option (Bor (List ℕ))) (u : Bor (List ℕ))
+      → MatchOption r (pointwise nat_eq (take 1 t) (43 ∷ []) ≡ false)
+      (λ x. (pointwise nat_eq (take 1 t) (43 ∷ []) ≡ true) × (x.now ≡ drop 1 t) × (length x.now + 1 ≡ length t))
+      → u.now ≡ t → (unwrap_or r u).now ≡ after_plus t
   unfolding after_plus
-  plus_yes e = rw e (rest_from 1 t)
+  plus_stripped None u other e = rw (sym (plus-begins t) ∙ other) e
+  plus_stripped (Some x) u h e = rw (sym (plus-begins t) ∙ h.0) h.1
 
-  pub plus-no : begins 43 t ≡ false → t ≡ after_plus t
-  unfolding after_plus
-  plus-no e = rw e refl
-
+module _ (t : List ℕ) where
   pub sign-plus : begins 43 t ≡ true → take (length t - 1) (drop 1 t) ≡ after_sign t
   unfolding after_sign
   sign-plus e = rw e (rest_from 1 t)

@@ -1,20 +1,25 @@
 -- Laws of trim.
 --     leading_le, kept-le, trimmed-le     trim adds nothing
---     leading-white, leading-other        one byte further at the front
---     kept-white, kept-other              one byte further from the end
+--     leading-position                    the white bytes at the front, as the library finds the first other one
+--     place_or_length                     its place, or the length
+--     kept_none, kept_at                  what is kept, by the place of the last byte that stays
 --     span_none, span_some                where the trimmed text lies
 --     rest_from, rest-next                a part that goes to the end
 -- Assumes nothing.
-use Prim.Native.Nat.{ℕ, suc, ◌+◌, ◌-◌, ◌≤◌, ◌<◌}
+use Prim.Native.Nat.{ℕ, zero, suc, ◌+◌, ◌-◌, ◌≤◌, ◌<◌}
 use mathlib.Core.Path.{◌≡◌, refl, sym, ap, ◌∙◌}
-use mathlib.Core.Bool.{Bool, true, false, cond, ◌&&◌}
+use mathlib.Core.Bool.{Bool, true, false, cond, not, ◌&&◌}
 use mathlib.Core.List.{List, [], ◌∷◌, ◌++◌}
 use native.Mathlib.Omega.{arith}
-use borrow.Author.Tests.{eq-eqb, ne_eqb}
+use borrow.Author.Tests.{eq-eqb, ne_eqb, ltb-false}
 use native.Mathlib.Numerals.{add-one}
 use lib.ListN.{length, take, drop, get_or, length-take, length-drop}
 use lib.Seq.{drop-cons, take-suc, take_all, length-take-le}
 use lib.Dec.{eqb, eqb-suc-zero}
+use Rattle.std.specs.Prelude.{Option, Some, None, unwrap_or, nat_lt}
+use Rattle.std.specs.List.{position, position_or_len}
+use Rattle.std.proofs.lemmas.List.Recursion.{is_position_or_len}
+use Rattle.std.proofs.lemmas.List.Sums.{prefix_len-le-length}
 use Rattle.number.specs.Trim.{white, leading, kept, end_trimmed, trimmed, span_of}
 
 cond_le : (b : Bool) (m n k : ℕ) → m ≤ k → n ≤ k → cond b m n ≤ k
@@ -41,44 +46,51 @@ unfolding trimmed
 trimmed-le t = omega (arith, end_trimmed-le (drop (leading t) t), length-drop (leading t) t)
 
 -- ---- from the front
-module _ (t : List ℕ) (i : ℕ) (h : i < length t) where
-  pub leading-white : white (get_or t i 0) ≡ true → leading (drop i t) ≡ suc (leading (drop (i + 1) t))
-  unfolding leading
-  leading-white e = rw (drop-cons t i 0, add-one i) (rw e refl)
+pub leading-position : (t : List ℕ) → leading t ≡ position_or_len (λ b. not (white b)) t
+unfolding leading
+leading-position t = is_position_or_len leading (λ b. not (white b)) refl (λ b u. turned (white b) (leading u)) t
+  where
+    turned : (w : Bool) (n : ℕ) → cond w (suc n) 0 ≡ cond (not w) 0 (1 + n)
+    turned true n = omega arith
+    turned false n = refl
 
-  pub leading-other : white (get_or t i 0) ≡ false → leading (drop i t) ≡ 0
-  unfolding leading
-  leading-other e = rw (drop-cons t i 0) (rw e refl)
+-- the place of the first byte that passes, or the length
+pub place_or_length : (p : ℕ → Bool) (t : List ℕ) {r : Option ℕ} → r ≡ position p t → unwrap_or r (length t) ≡ position_or_len p t
+place_or_length p t e = rw e (go (nat_lt (position_or_len p t) (length t)) refl)
+  where
+    go : (b : Bool) → nat_lt (position_or_len p t) (length t) ≡ b → unwrap_or (cond b (Some (position_or_len p t)) None) (length t) ≡ position_or_len p t
+    go true e = refl
+    go false e = omega (arith, ltb-false (position_or_len p t) (length t) e, prefix_len-le-length (λ b. not (p b)) t)
 
 -- ---- from the end
-snoc_white : (xs : List ℕ) (b : ℕ) → white b ≡ true → kept (xs ++ b ∷ []) ≡ kept xs
-unfolding kept
-snoc_white [] b e = rw e refl
-snoc_white (x ∷ xs) b e = rw (snoc_white xs b e)
+-- by the place of the last byte that stays
+not_false : (w : Bool) → not w ≡ false → w ≡ true
+not_false true e = refl
+not_false false e = sym e
 
-never : (w : Bool) (n : ℕ) → cond (w && false) 0 n ≡ n
+not_true : (w : Bool) → not w ≡ true → w ≡ false
+not_true true e = sym e
+not_true false e = refl
+
+never : (w : Bool) (n : ℕ) → n ≡ cond (w && false) 0 n
 never true n = refl
 never false n = refl
 
-snoc_other : (xs : List ℕ) (b : ℕ) → white b ≡ false → kept (xs ++ b ∷ []) ≡ suc (length xs)
+pub kept_none : (t : List ℕ) → ((k : ℕ) → k < length t → not (white (get_or t k 0)) ≡ false) → 0 ≡ kept t
 unfolding kept
-snoc_other [] b e = rw e refl
-snoc_other (x ∷ xs) b e = rw (snoc_other xs b e, eqb-suc-zero (length xs)) (never (white x) (suc (suc (length xs))))
+kept_none [] h = refl
+kept_none (b ∷ t) h =
+    let rest = kept_none t (λ k l. h (suc k) (omega arith)) in
+    rw (not_false (white b) (h 0 (omega arith)), ← rest) refl
 
-last_out : (t : List ℕ) (n : ℕ) → 0 < n → n ≤ length t → take n t ≡ take (n - 1) t ++ get_or t (n - 1) 0 ∷ []
-last_out t n p h =
-    let e : n ≡ suc (n - 1) = omega arith in
-    ap (λ (k : ℕ). take k t) e ∙ take-suc t (n - 1) 0 (omega arith)
-
-module _ (t : List ℕ) (n : ℕ) (p : 0 < n) (h : n ≤ length t) where
-  pub kept-white : white (get_or t (n - 1) 0) ≡ true → kept (take n t) ≡ kept (take (n - 1) t)
-  kept-white e = ap kept (last_out t n p h) ∙ snoc_white (take (n - 1) t) (get_or t (n - 1) 0) e
-
-  pub kept-other : white (get_or t (n - 1) 0) ≡ false → kept (take n t) ≡ n
-  kept-other e =
-      let l : length (take (n - 1) t) ≡ n - 1 = simp length-take (omega arith) in
-      let k = snoc_other (take (n - 1) t) (get_or t (n - 1) 0) e in
-      ap kept (last_out t n p h) ∙ omega arith
+pub kept_at : (t : List ℕ) (i : ℕ) → i < length t → not (white (get_or t i 0)) ≡ true
+    → ((k : ℕ) → i < k → k < length t → not (white (get_or t k 0)) ≡ false) → i + 1 ≡ kept t
+unfolding kept
+kept_at [] i l e h = absurd (omega arith)
+kept_at (b ∷ t) zero l e h = rw (not_true (white b) e, ← kept_none t (λ k l. h (suc k) (omega arith) (omega arith))) refl
+kept_at (b ∷ t) (suc i) l e h =
+    let rest = kept_at t i (omega arith) e (λ k m n. h (suc k) (omega arith) (omega arith)) in
+    rw (← rest, add-one i, eqb-suc-zero i) (add-one (suc i) ∙ never (white b) (suc (suc i)))
 
 -- a text from a place on, as a part that goes to the end
 pub rest_from : (i : ℕ) (t : List ℕ) → take (length t - i) (drop i t) ≡ drop i t
