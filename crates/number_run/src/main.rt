@@ -5,11 +5,11 @@
 #![tactic(auto)]
 
 use intake::read_full;
-use number::decimal::{Decimal, read_decimal};
+use number::decimal::read_decimal;
 use number::trim::{read_text, trim_end};
-use number::whole::{Signed, Unsigned, read_signed, read_unsigned};
+use number::whole::{read_signed, read_unsigned};
 use page::{bits_of, put_hex};
-use real::{Real, read_real, read_ten_thousandths};
+use real::{read_real, read_ten_thousandths};
 
 fn put(rt: &impl Print, text: &[u8]) {
     let _ = rt.write_all(text);
@@ -34,36 +34,34 @@ fn put_bits(rt: &impl Print, bits: u64) {
 }
 
 // The bits of the double, and its places.
-fn put_real(rt: &impl Print, got: Real) {
-    match got {
-        Real::R(x, places) => {
-            put_bits(rt, bits_of(x));
-            put(rt, b"/");
-            put_number(rt, places as u64);
-        }
-        Real::NotR => put(rt, b"-"),
-    }
+fn put_real(rt: &impl Print, x: f64, places: u64) {
+    put_bits(rt, bits_of(x));
+    put(rt, b"/");
+    put_number(rt, places);
 }
 
 fn put_u(rt: &impl Print, text: &[u8]) {
     put(rt, b"U=");
     match read_unsigned(text) {
-        Unsigned::U(n) => put_number(rt, n),
-        Unsigned::NotU => put(rt, b"-"),
+        Some(n) => put_number(rt, n),
+        None => put(rt, b"-"),
     }
 }
 
 fn put_i(rt: &impl Print, text: &[u8]) {
     put(rt, b" I=");
     match read_signed(text) {
-        Signed::I(n) => put_signed(rt, n),
-        Signed::NotI => put(rt, b"-"),
+        Some(n) => put_signed(rt, n),
+        None => put(rt, b"-"),
     }
 }
 
 fn put_r(rt: &impl Print, text: &[u8]) {
     put(rt, b" R=");
-    put_real(rt, read_real(text));
+    match read_real(text) {
+        Some(real) => put_real(rt, real.value, real.places as u64),
+        None => put(rt, b"-"),
+    }
 }
 
 fn put_sign(rt: &impl Print, minus: bool) {
@@ -77,23 +75,22 @@ fn put_sign(rt: &impl Print, minus: bool) {
 fn put_d(rt: &impl Print, text: &[u8]) {
     put(rt, b" D=");
     match read_decimal(text) {
-        Decimal::NotPlain => put(rt, b"-"),
-        Decimal::Plain {
-            minus,
-            digits,
-            places,
-        } => {
-            put_sign(rt, minus);
-            put_number(rt, digits);
+        Some(decimal) => {
+            put_sign(rt, decimal.minus);
+            put_number(rt, decimal.digits);
             put(rt, b"/");
-            put_number(rt, places as u64);
+            put_number(rt, decimal.places as u64);
         }
+        None => put(rt, b"-"),
     }
 }
 
 fn put_a(rt: &impl Print, text: &[u8]) {
     put(rt, b" A=");
-    put_real(rt, read_ten_thousandths(text));
+    match read_ten_thousandths(text) {
+        Some(x) => put_real(rt, x, 0),
+        None => put(rt, b"-"),
+    }
 }
 
 fn put_t(rt: &impl Print, text: &[u8]) {
@@ -127,12 +124,12 @@ fn put_cell(rt: &impl Print, x: f64, width: usize, places: usize) {
 fn put_w(rt: &impl Print, text: &[u8]) {
     put(rt, b" W=");
     match read_real(text) {
-        Real::R(x, _) => {
-            put_cell(rt, x, 8, 3);
-            put_cell(rt, x, 6, 2);
-            put_cell(rt, x, 10, 6);
+        Some(real) => {
+            put_cell(rt, real.value, 8, 3);
+            put_cell(rt, real.value, 6, 2);
+            put_cell(rt, real.value, 10, 6);
         }
-        Real::NotR => put(rt, b"-"),
+        None => put(rt, b"-"),
     }
 }
 
@@ -151,13 +148,11 @@ fn put_line(rt: &impl Print, text: &[u8]) {
 // A line for each text that an LF ends.
 fn put_lines(rt: &impl Print, input: &[u8]) {
     let mut at = 0;
-    let mut i = 0;
-    while i < input.len() {
-        if input[i] == 10 {
+    for (i, b) in input.iter().enumerate() {
+        if *b == 10 {
             put_line(rt, &input[at..i]);
             at = i + 1;
         }
-        i += 1;
     }
 }
 

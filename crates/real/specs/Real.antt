@@ -1,6 +1,6 @@
 -- What a text says as R, with "how many digits stood after the point", which is p; and as one of ANISOU's six: "I, each made a double and divided by
 -- 10000.0".
-use Rattle.std.specs.Prelude.{ℕ, ◌+◌, ◌*◌, ◌/◌, ◌^◌, ◌≤◌, ◌<◌, ◌≡◌, cond, List, length, leb, eqb, ℤ, pos, Float, Option, Some, None, option_map}
+use Rattle.std.specs.Prelude.{ℕ, ◌+◌, ◌*◌, ◌/◌, ◌^◌, ◌≤◌, ◌<◌, ◌≡◌, cond, ◌-◌, ◌||◌, List, length, leb, ltb, eqb, ℤ, pos, Float, Option, Some, None, option_map}
 use Rattle.std.specs.Float.{binary64}
 use Rattle.std.specs.Float.Ieee.{div, of_int}
 use Rattle.number.specs.Whole.{signed_of}
@@ -34,12 +34,9 @@ ten_thousandths_of t = cond (leb (length t) 7) (option_map ten_thousandth (signe
 abbrev pub Few : Decimal → Type 0
 Few d = (d.digits < 10 ^ 10) × (d.places ≤ 9)
 
--- what was read of a word with three digits behind the point, and with two
-unfoldable pub thousandths_of : ℕ → Option Real
-thousandths_of c = cond (eqb c none) None (Some (real_from (plain (minus_in c) (front_in c * 1000 + behind_in c) 3)))
-
-unfoldable pub hundredths_of : ℕ → Option Real
-hundredths_of c = cond (eqb c none) None (Some (real_from (plain (minus_in c) (front_in c * 100 + behind_in c / 10) 2)))
+-- what was read of a word with so many digits behind the point, three at most
+unfoldable pub coded_of : ℕ → ℕ → Option Real
+coded_of p c = cond (eqb c none || ltb 3 p) None (Some (real_from (plain (minus_in c) (front_in c * 10 ^ p + behind_in c / 10 ^ (3 - p)) p)))
 
 -- a double and its places, if they were read, are what the text says
 abbrev pub SaysReal : List ℕ → Option Real → Type 0

@@ -21,26 +21,12 @@ pub struct Real {
     pub places: u8,
 }
 
-// 10^p as a whole number: one, p times multiplied by ten.
-fn ten_to(p: usize) -> u64
-    requires { p ≤ 11 }
-    ensures { result ≡ 10 ^ p }
-{
-    let mut n = 1;
-    let mut i = 0;
-    while i < p {
-        n *= 10;
-        i += 1;
-    }
-    n
-}
-
 // 10^p as a double.
 pub(crate) fn converted(p: usize) -> f64
     requires { p ≤ 11 }
     ensures { result ≡ of_int binary64 (pos (10 ^ p)) }
 {
-    (ten_to(p) as i64) as f64
+    (10u64.pow(p as u32) as i64) as f64
 }
 
 // The same. Most reals have three places or two: where the number is known beforehand, the compiler multiplies it out.
@@ -82,33 +68,20 @@ fn real_from(decimal: Decimal) -> Real
     }
 }
 
-// The double of what was read of a word with three digits behind the point, if anything was.
-pub fn thousandths(code: u64) -> Option<Real>
-    ensures { result ≡ specs.thousandths_of code }
+// The double of what was read of a word with so many digits behind the point, if anything was. Where they are fewer than three, zeros stood
+// behind them in the word.
+pub fn coded<const PLACES: usize>(code: u64) -> Option<Real>
+    ensures { result ≡ specs.coded_of PLACES code }
 {
-    if code == NONE {
+    if code == NONE || 3 < PLACES {
         return None;
     }
-    let digits = code % 65536 * 1000 + code / 0x1_0000_0000 % 65536;
+    let front = code % 65536 * 10u64.pow(PLACES as u32);
+    let behind = code / 0x1_0000_0000 % 65536 / 10u64.pow((3 - PLACES) as u32);
     Some(real_from(Decimal {
         minus: MINUS <= code,
-        digits,
-        places: 3,
-    }))
-}
-
-// The same with two digits, behind which a zero stood in the word.
-pub fn hundredths(code: u64) -> Option<Real>
-    ensures { result ≡ specs.hundredths_of code }
-{
-    if code == NONE {
-        return None;
-    }
-    let digits = code % 65536 * 100 + code / 0x1_0000_0000 % 65536 / 10;
-    Some(real_from(Decimal {
-        minus: MINUS <= code,
-        digits,
-        places: 2,
+        digits: front + behind,
+        places: PLACES,
     }))
 }
 
@@ -117,10 +90,10 @@ fn quick_real(text: &[u8]) -> Option<Real>
     ensures { specs.SaysReal text.now result }
 {
     if text.len() == 8 {
-        return thousandths(read_word(eight(text)));
+        return coded::<3>(read_word(eight(text)));
     }
     if text.len() == 6 {
-        return hundredths(read_word(six(text)));
+        return coded::<2>(read_word(six(text)));
     }
     None
 }

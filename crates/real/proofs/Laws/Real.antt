@@ -10,8 +10,9 @@
 -- Assumes nothing.
 use Prim.Native.Nat.{ℕ, ◌+◌, ◌*◌, ◌/◌, ◌^◌, ◌≤◌, ◌<◌}
 use mathlib.Core.Path.{◌≡◌, refl, sym, ap}
-use mathlib.Core.Bool.{Bool, true, false, cond, not}
+use mathlib.Core.Bool.{Bool, true, false, cond, not, ◌||◌}
 use mathlib.Core.List.{List}
+use native.Mathlib.Nat.{div-one}
 use native.Mathlib.Omega.{arith}
 use borrow.Author.Tests.{le-leb}
 use lib.ListN.{length}
@@ -25,7 +26,7 @@ use Rattle.number.specs.Decimal.{plain, decimal_of}
 use Rattle.number.specs.Word.{none, code_of, minus_in, front_in, behind_in, eight_of, six_of}
 use Rattle.real.specs.Double.{double_of}
 use Rattle.real.specs.Near.{Near}
-use Rattle.real.specs.Real.{real, real_from, real_of, ten_thousandth, ten_thousandths_of, Few, SaysReal, thousandths_of, hundredths_of}
+use Rattle.real.specs.Real.{real, real_from, real_of, ten_thousandth, ten_thousandths_of, Few, SaysReal, coded_of}
 use Rattle.real.specs.Sign.{below}
 use Rattle.number.specs.declared.decimal.Decimal.{Decimal}
 use Rattle.real.specs.declared.Real.{Real}
@@ -75,21 +76,21 @@ reals_tell t u {s} {r} {m} {n} {p} {q} d e same =
 pub decimal-within : (t : List ℕ) {d : Decimal} → decimal_of t ≡ Some d → Few d
 decimal-within t e = decimal_limits t e
 
-pub eight_real : (t : List ℕ) → SaysReal t (thousandths_of (code_of (eight_of t)))
-unfolding thousandths_of
+pub eight_real : (t : List ℕ) → SaysReal t (coded_of 3 (code_of (eight_of t)))
+unfolding coded_of
 eight_real t = go (eqb (code_of (eight_of t)) none) refl
   where
     go : (b : Bool) → let c = code_of (eight_of t) in eqb c none ≡ b
-        → SaysReal t (cond b None (Some (real_from (plain (minus_in c) (front_in c * 1000 + behind_in c) 3))))
+        → SaysReal t (cond (b || false) None (Some (real_from (plain (minus_in c) (front_in c * 10 ^ 3 + behind_in c / 10 ^ 0) 3))))
     go true e = tt
-    go false e = real-is t (eight_said t e)
+    go false e = rw (div-one (behind_in (code_of (eight_of t)))) (real-is t (eight_said t e))
 
-pub six-real : (t : List ℕ) → SaysReal t (hundredths_of (code_of (six_of t)))
-unfolding hundredths_of
+pub six-real : (t : List ℕ) → SaysReal t (coded_of 2 (code_of (six_of t)))
+unfolding coded_of
 six-real t = go (eqb (code_of (six_of t)) none) refl
   where
     go : (b : Bool) → let c = code_of (six_of t) in eqb c none ≡ b
-        → SaysReal t (cond b None (Some (real_from (plain (minus_in c) (front_in c * 100 + behind_in c / 10) 2))))
+        → SaysReal t (cond (b || false) None (Some (real_from (plain (minus_in c) (front_in c * 10 ^ 2 + behind_in c / 10 ^ 1) 2))))
     go true e = tt
     go false e = real-is t (six-said t e)
 

@@ -1,15 +1,21 @@
 -- The contract of each public function asks nothing and leaves one answer, with one content of all that is lent to be written.
 -- Assumes nothing.
+use Prim.Native.Nat.{ℕ}
 use mathlib.Core.Path.{refl}
+use base.Logic.{emp, sep, via, emp∗, mono_l}
+use contract.BorrowLft.{⊑_static}
+use contract.Monad.{fact_i}
+use denote.Param.{number}
 use Rattle.single.specs.One.{One}
 use Rattle.single.proofs.Laws.One.{equation}
 use Rattle.real.specs.contracts as its
 
-pub thousandths_one : One its.thousandths.ended (λ M 𝓤. its.thousandths.clauses)
-thousandths_one w κs a g = equation w (λ u v. refl)
-
-pub hundredths_one : One its.hundredths.ended (λ M 𝓤. its.hundredths.clauses)
-hundredths_one w κs a g = equation w (λ u v. refl)
+-- a number has no lifetime, so nothing is asked of it
+pub coded_one : (places : ℕ) → One (its.coded.ended (number places)) (λ M 𝓤. its.coded.clauses (number places))
+coded_one places w κs a g = (
+  via w.𝓤 (sep w.𝓤 (emp w.𝓤) (emp w.𝓤)) (emp∗ w.𝓤 (emp w.𝓤)) (mono_l w.𝓤 (emp w.𝓤) (fact_i w.𝓤 _ (emp w.𝓤) (⊑_static _))),
+  (equation w (λ u v. refl)).1,
+)
 
 pub read_real_one : One its.read_real.ended (λ M 𝓤. its.read_real.clauses)
 read_real_one w κs a g = equation w (λ u v. refl)
