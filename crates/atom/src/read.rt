@@ -16,7 +16,7 @@ use field::text_field::{character, fine_character, fine_optional, fine_text, opt
 use line::columns::Columns;
 use line::fault::{Faults, Got};
 use number::word::{eight, five, four, read_word, six};
-use real::{Real, hundredths, thousandths};
+use real::{Real, coded};
 
 // Three coordinates, with the places of each.
 #[derive(Clone, Copy)]
@@ -155,14 +155,14 @@ fn quick_number(line: &[u8]) -> Option<i64>
 fn quick_coordinate(line: &[u8], at: Columns) -> Option<Real>
     ensures { result ≡ fine_real false line.now at }
 {
-    thousandths(read_word(eight(at.part(line)))).or_else(|| fine_real(line, at))
+    coded::<3>(read_word(eight(at.part(line)))).or_else(|| fine_real(line, at))
 }
 
 // An occupancy or a temperature factor, which has six and two.
 fn quick_share(line: &[u8], at: Columns) -> Option<Real>
     ensures { result ≡ fine_real false line.now at }
 {
-    hundredths(read_word(six(at.part(line)))).or_else(|| fine_real(line, at))
+    coded::<2>(read_word(six(at.part(line)))).or_else(|| fine_real(line, at))
 }
 
 // What the kinds share, of a line that reaches past the element: the one test spares each field its own.

@@ -8,12 +8,13 @@
 -- Assumes nothing.
 use Prim.Native.Nat.{ℕ, zero, suc, ◌+◌, ◌-◌, ◌^◌, ◌≤◌, ◌<◌}
 use mathlib.Core.Path.{◌≡◌, refl, sym, ap, ◌∙◌}
-use mathlib.Core.Bool.{Bool, true, false, cond, ◌&&◌, and-false}
+use mathlib.Core.Bool.{Bool, true, false, cond, not, ◌&&◌, and-false}
 use mathlib.Core.List.{List, []}
 use native.Mathlib.Omega.{arith}
 use borrow.Author.Tests.{leb-true, lt-leb, ne_eqb}
 use Rattle.std.specs.Prelude.{Option, Some, None, unwrap_or}
 use lib.ListN.{length, take, drop, get_or, length-take}
+use lib.Seq.{take_all}
 use lib.Dec.{leb, ltb, eqb, lit<}
 use lib.IntN.{ℤ, pos}
 use lib.Signed.{mag}
@@ -27,7 +28,7 @@ use Rattle.number.specs.Wide.{mark_at, marked_parts, marked_in, marked_of, wide_
 use Rattle.real.specs.Real.{real_of, ten_thousandths_of}
 use Rattle.real.specs.Wide.{real_with}
 use Rattle.number.specs.declared.trim.Span.{Span}
-use Rattle.number.proofs.Laws.Trim.{leading_le, leading-other, kept-other, span_some}
+use Rattle.number.proofs.Laws.Trim.{leading_le, leading-none, kept_at, span_some}
 use Rattle.number.proofs.Laws.Width.{signed-fits}
 use Rattle.line.specs.Columns.{part_of}
 use Rattle.line.specs.declared.columns.Columns.{Columns}
@@ -77,8 +78,10 @@ pub whole_span : (t : List ℕ) → 0 < length t → 32 < get_or t 0 0 → 32 < 
 whole_span t h a b =
     let none : length t - 0 ≡ length t = omega arith in
     let all = ap (λ (n : ℕ). take n t) none in
-    sym (span_some t 0 (length t) (sym (leading-other t 0 h (over_black (get_or t 0 0) a)))
-    (sym (ap kept all ∙ kept-other t (length t) h (omega arith) (over_black (get_or t (length t - 1) 0) b))) (λ q. omega arith))
+    let last = kept_at t (length t - 1) (omega arith) (ap not (over_black (get_or t (length t - 1) 0) b)) (λ k l m. absurd (omega arith)) in
+    let each : length t ≡ kept t = omega arith in
+    sym (span_some t 0 (length t) (sym (leading-none t (over_black (get_or t 0 0) a)))
+    (each ∙ sym (ap kept (all ∙ take_all (length t) t (omega arith)))) (λ q. omega arith))
 
 pub whole-text : (start : ℕ) (t : List ℕ) → (0 < length t) × (span_of t ≡ record { place = 0; length = length t })
     → record { place = start; length = length t } ≡ shifted start (span_of t)

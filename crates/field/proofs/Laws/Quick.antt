@@ -16,7 +16,7 @@ use lib.Dec.{eqb}
 use Rattle.number.specs.Whole.{with_sign}
 use Rattle.number.specs.Word.{none, code_of, minus_in, front_in, behind_in, eight_of, six_of, four_of, five_of}
 use Rattle.number.proofs.Laws.Fixed.{four-said, five_said}
-use Rattle.real.specs.Real.{SaysReal, thousandths_of, hundredths_of}
+use Rattle.real.specs.Real.{SaysReal, coded_of}
 use Rattle.real.specs.declared.Real.{Real}
 use Rattle.real.proofs.Laws.Real.{eight_real, six-real}
 use Rattle.real.proofs.Laws.WideReal.{off-is}
@@ -32,11 +32,11 @@ module _ (l : List ℕ) (at : Columns) where
   says-fine None e = refl
 
   module _ {t : List ℕ} {w c : ℕ} (part : t ≡ part_of l at) (code : c ≡ code_of w) where
-    pub eight_fine : w ≡ eight_of t → option_or (thousandths_of c) (fine_real false l at) ≡ fine_real false l at
-    eight_fine word = rw (code, word, part) (says-fine (thousandths_of (code_of (eight_of (part_of l at)))) (eight_real (part_of l at)))
+    pub eight_fine : w ≡ eight_of t → option_or (coded_of 3 c) (fine_real false l at) ≡ fine_real false l at
+    eight_fine word = rw (code, word, part) (says-fine (coded_of 3 (code_of (eight_of (part_of l at)))) (eight_real (part_of l at)))
 
-    pub six-fine : w ≡ six_of t → option_or (hundredths_of c) (fine_real false l at) ≡ fine_real false l at
-    six-fine word = rw (code, word, part) (says-fine (hundredths_of (code_of (six_of (part_of l at)))) (six-real (part_of l at)))
+    pub six-fine : w ≡ six_of t → option_or (coded_of 2 c) (fine_real false l at) ≡ fine_real false l at
+    six-fine word = rw (code, word, part) (says-fine (coded_of 2 (code_of (six_of (part_of l at)))) (six-real (part_of l at)))
 
   -- ---- whole numbers
   signed_or : option_or (signed_four (code_of (four_of (part_of l at)))) (fine_signed l at) ≡ fine_signed l at

@@ -1,6 +1,7 @@
 -- Laws of trim.
 --     leading_le, kept-le, trimmed-le     trim adds nothing
 --     leading-position                    the white bytes at the front, as the library finds the first other one
+--     leading-none                        none, where the first byte stays
 --     place_or_length                     its place, or the length
 --     kept_none, kept_at                  what is kept, by the place of the last byte that stays
 --     span_none, span_some                where the trimmed text lies
@@ -53,6 +54,11 @@ leading-position t = is_position_or_len leading (λ b. not (white b)) refl (λ b
     turned : (w : Bool) (n : ℕ) → cond w (suc n) 0 ≡ cond (not w) 0 (1 + n)
     turned true n = omega arith
     turned false n = refl
+
+pub leading-none : (t : List ℕ) → white (get_or t 0 0) ≡ false → leading t ≡ 0
+unfolding leading
+leading-none [] e = refl
+leading-none (b ∷ t) e = rw e refl
 
 -- the place of the first byte that passes, or the length
 pub place_or_length : (p : ℕ → Bool) (t : List ℕ) {r : Option ℕ} → r ≡ position p t → unwrap_or r (length t) ≡ position_or_len p t

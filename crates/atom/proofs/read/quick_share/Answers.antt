@@ -9,5 +9,5 @@ pub returns : goal.returns
 returns c =
     let l = c.args.line.now in
     let p = c.args.at in
-    or-is c.hundredths.result (fine_real false l p) _ (λ q. search rules) c.or_else.ensures
-    ∙ rw c.hundredths.ensures (six-fine l p c.part.ensures c.read_word.ensures c.six.ensures)
+    or-is c.coded.result (fine_real false l p) _ (λ q. search rules) c.or_else.ensures
+    ∙ rw c.coded.ensures (six-fine l p c.part.ensures c.read_word.ensures c.six.ensures)
