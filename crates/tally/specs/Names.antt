@@ -1,7 +1,7 @@
 -- "It counts by the first six bytes: REMARK; HET; HELIX; SHEET; TURN; SITE; ORIGX, SCALE and MTRIX rows together; ATOM with HETATM; TER; CONECT;
 -- SEQRES. The second MASTER number must be 0. Lines of three to five bytes count as if blanks followed to six." No name counts for the second
 -- number, and the rows are the nine names that end in 1, 2 and 3.
-use Rattle.std.specs.Prelude.{ℕ, suc, Bool, cond, List, [], ◌∷◌, length, ltb, eqb}
+use Rattle.std.specs.Prelude.{ℕ, suc, Bool, cond, List, [], ◌∷◌, length, ltb, eqb, Option, Some, None}
 use Prim.Native.String.{String}
 use Rattle.kind.specs.Key.{key_of}
 use Rattle.kind.specs.Kind.{same}
@@ -46,14 +46,14 @@ names =
     ∷ "SEQRES" counts 11
     ∷ []
 
--- the place of the first name that a text is; 12, where MASTER has no number, if it is none
-abbrev pub number_by : List ℕ → List Counted → ℕ
-number_by text [] = 12
-number_by text (n ∷ t) = cond (same text n.name) n.number (number_by text t)
+-- the place of the first name that a text is, if it is one
+abbrev pub number_by : List ℕ → List Counted → Option ℕ
+number_by text [] = None
+number_by text (n ∷ t) = cond (same text n.name) (Some n.number) (number_by text t)
 
--- the place of the number that counts a line
-unfoldable pub number_of : List ℕ → ℕ
-number_of l = cond (ltb (length l) 3) 12 (number_by (padded 6 l) names)
+-- the place of the number that counts a line, if one does
+unfoldable pub number_of : List ℕ → Option ℕ
+number_of l = cond (ltb (length l) 3) None (number_by (padded 6 l) names)
 
 -- a MASTER line: by its first six bytes, so that the six alone are one
 unfoldable pub is_master : List ℕ → Bool
@@ -61,6 +61,6 @@ is_master l = same (padded 6 l) (bytes "MASTER")
 
 -- ---- the word of a helper
 -- the same by the numbers that the names are, their bytes being the digits
-abbrev pub number_by_key : ℕ → List Counted → ℕ
-number_by_key key [] = 12
-number_by_key key (n ∷ t) = cond (eqb key (key_of n.name)) n.number (number_by_key key t)
+abbrev pub number_by_key : ℕ → List Counted → Option ℕ
+number_by_key key [] = None
+number_by_key key (n ∷ t) = cond (eqb key (key_of n.name)) (Some n.number) (number_by_key key t)

@@ -1,14 +1,19 @@
 -- "The running tally is lent and updated line by line, and after every prefix of the file it equals the count over those lines. All models count.
 -- Lines that the lexer refuses are counted by name all the same; bytes of 128 or more elsewhere don't matter." So a line counts by its name alone,
 -- whatever stands before it.
-use Rattle.std.specs.Prelude.{ℕ, suc, ◌+◌, ◌-◌, ◌^◌, min, cond, List, [], ◌∷◌, eqb}
+use Rattle.std.specs.Prelude.{ℕ, suc, ◌+◌, ◌-◌, ◌^◌, min, Bool, false, cond, List, [], ◌∷◌, eqb, Option, Some, None}
 use Rattle.tally.specs.Names.{number_of}
 use Rattle.tally.specs.declared.Tally.{Tally}
+
+-- whether a number at a place counts a line, by the place of the one that does
+abbrev pub counts_at : ℕ → Option ℕ → Bool
+counts_at n None = false
+counts_at n (Some place) = eqb place n
 
 -- how many of some lines count for the number at a place
 unfoldable pub count : ℕ → List (List ℕ) → ℕ
 count n [] = 0
-count n (l ∷ ls) = cond (eqb (number_of l) n) (suc (count n ls)) (count n ls)
+count n (l ∷ ls) = cond (counts_at n (number_of l)) (suc (count n ls)) (count n ls)
 
 -- a tally of what a function gives for each place
 abbrev pub tally_by : (ℕ → ℕ) → Tally
@@ -32,10 +37,10 @@ count_over ls = tally_by (λ n. count n ls)
 
 -- ---- as it runs
 -- the count at a place with one more line, which counts for a number; it stops at the last that there is
-unfoldable pub more : ℕ → ℕ → ℕ → ℕ
-more own number n = cond (eqb number own) (min (n + 1) (2 ^ 64 - 1)) n
+unfoldable pub more : ℕ → Option ℕ → ℕ → ℕ
+more own number n = cond (counts_at own number) (min (n + 1) (2 ^ 64 - 1)) n
 
-abbrev pub with_number : ℕ → Tally → Tally
+abbrev pub with_number : Option ℕ → Tally → Tally
 with_number number t = record {
   remark = more 0 number t.remark;
   het = more 2 number t.het;

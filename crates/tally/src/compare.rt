@@ -45,25 +45,14 @@ pub fn said_by(master: Master) -> [u64; 12]
     ]
 }
 
-fn unlike(a: u64, b: u64) -> u64
-    ensures { result ≡ specs.unlike a b }
-{
-    if a == b {
-        return 0;
-    }
-    1
-}
-
 // A bit for each place of two lists, set where they differ; the last places go first.
 fn bits_of(counted: &[u64], said: &[u64]) -> u64
     requires { (length counted.now ≡ length said.now) × (length said.now < 64) }
     ensures { result ≡ specs.differing counted.now said.now }
 {
     let mut bits = 0;
-    let mut i = said.len();
-    while 0 < i {
-        i -= 1;
-        bits = unlike(counted[i], said[i]) + 2 * bits;
+    for i in (0..said.len()).rev() {
+        bits = u64::from(counted[i] != said[i]) + 2 * bits;
     }
     bits
 }

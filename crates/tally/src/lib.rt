@@ -44,20 +44,17 @@ impl Tally {
 }
 
 // A count, with one more if the line's number is its own.
-fn more(count: u64, own: usize, number: usize) -> u64
+fn more(count: u64, own: usize, number: Option<usize>) -> u64
     ensures { result ≡ specs.more own number count }
 {
-    if number != own {
-        return count;
+    match number {
+        Some(n) if n == own => count.saturating_add(1),
+        _ => count,
     }
-    if count == 18446744073709551615 {
-        return count;
-    }
-    count + 1
 }
 
-// The tally with one line more, by the number that counts it.
-fn with_number(tally: Tally, number: usize) -> Tally
+// The tally with one line more, by the number that counts it, if one does.
+fn with_number(tally: Tally, number: Option<usize>) -> Tally
     ensures { result ≡ specs.with_number number tally }
 {
     Tally {

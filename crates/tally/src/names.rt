@@ -3,39 +3,33 @@ ghost use Rattle.std.specs.Prelude.{◌≡◌, get_or};
 ghost use Rattle.kind.specs.Key.{key_of};
 ghost use Rattle.tally.specs.Names as specs;
 
-// A byte of a line, or a blank behind its end.
+// A byte of a line, or a blank past its end.
 fn byte_or_blank(line: &[u8], i: usize) -> u8
     ensures { result ≡ get_or line.now i 32 }
 {
-    if i < line.len() {
-        return line[i];
-    }
-    32
-}
-
-fn wide(b: u8) -> u64
-    ensures { result ≡ b }
-{
-    b as u64
+    line.get(i).copied().unwrap_or(b' ')
 }
 
 // The first six bytes as a number, as if blanks followed the line.
 fn name_key(line: &[u8]) -> u64
     ensures { result ≡ key_of (specs.padded 6 line.now) }
 {
-    let mut key = 0;
-    let mut i = 0;
-    while i < 6 {
-        key = key * 256 + wide(byte_or_blank(line, i));
-        i += 1;
-    }
-    key
+    u64::from_be_bytes([
+        0,
+        0,
+        byte_or_blank(line, 0),
+        byte_or_blank(line, 1),
+        byte_or_blank(line, 2),
+        byte_or_blank(line, 3),
+        byte_or_blank(line, 4),
+        byte_or_blank(line, 5),
+    ])
 }
 
-fn numbered(key: u64) -> usize
+fn numbered(key: u64) -> Option<usize>
     ensures { result ≡ specs.number_by_key key specs.names }
 {
-    match key {
+    let number = match key {
         0x52454d41524b => 0, // REMARK
         0x484554202020 => 2, // HET
         0x48454c495820 => 3, // HELIX
@@ -56,16 +50,17 @@ fn numbered(key: u64) -> usize
         0x544552202020 => 9, // TER
         0x434f4e454354 => 10, // CONECT
         0x534551524553 => 11, // SEQRES
-        _ => 12,
-    }
+        _ => return None,
+    };
+    Some(number)
 }
 
-// The place, from 0, of the number that counts a line; 12 where none does.
-pub fn number_of(line: &[u8]) -> usize
+// The place, from 0, of the number that counts a line, if one does.
+pub fn number_of(line: &[u8]) -> Option<usize>
     ensures { result ≡ specs.number_of line.now }
 {
     if line.len() < 3 {
-        return 12;
+        return None;
     }
     numbered(name_key(line))
 }

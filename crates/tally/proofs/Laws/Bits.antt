@@ -1,4 +1,5 @@
 -- Which numbers differ, as bits.
+--     unlike-byte                       what the code makes of a test
 --     differing-next, differing-end     one place more, and none
 --     differing_lt                      as many bits as places
 --     Upto, turn-room, turn-again       a turn of the loop over the places
@@ -7,11 +8,12 @@
 use Prim.Native.Nat.{ℕ, zero, suc, ◌+◌, ◌*◌, ◌-◌, ◌%◌, ◌^◌, ◌≤◌, ◌<◌}
 use mathlib.Core.Path.{◌≡◌, refl, sym, ap}
 use mathlib.Core.Logic.{◌↔◌, ◌≢◌}
-use mathlib.Core.Bool.{Bool, true, false, cond}
+use mathlib.Core.Bool.{Bool, true, false, cond, not}
 use mathlib.Core.List.{List, [], ◌∷◌}
 use native.Mathlib.Nat.{pow-suc, pow-le-pow_right}
 use native.Mathlib.Numerals.{add-one}
 use native.Mathlib.Omega.{arith}
+use mir.Val.{bool_byte}
 use borrow.Author.Tests.{eqb-true, eqb-false}
 use lib.Dec.{eqb, lit<}
 use lib.ListN.{length, drop, get_or, drop_of_length-le}
@@ -24,6 +26,13 @@ unlike-le a b = go (eqb a b)
     go : (c : Bool) → cond c 0 1 ≤ 1
     go true = omega arith
     go false = omega arith
+
+pub unlike-byte : (a b : ℕ) → bool_byte (not (eqb a b)) ≡ unlike a b
+unlike-byte a b = go (eqb a b)
+  where
+    go : (c : Bool) → bool_byte (not c) ≡ cond c 0 1
+    go true = refl
+    go false = refl
 
 -- ---- place by place
 pub differing-next : (s t : List ℕ) (i : ℕ) → i < length s → i < length t

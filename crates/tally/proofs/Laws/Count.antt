@@ -10,13 +10,12 @@ use mathlib.Core.Path.{◌≡◌, refl, sym, ap, ◌∙◌, fun_ext}
 use mathlib.Core.Bool.{Bool, true, false, cond}
 use mathlib.Core.List.{List, [], ◌∷◌, ◌++◌, map}
 use native.Mathlib.Omega.{arith}
-use lib.Dec.{eqb}
 use lib.ListN.{length, take, drop, length-take}
 use lib.Seq.{take-add}
 use Rattle.walker.specs.Lines.{lines_of}
 use Rattle.walker.proofs.Laws.Lines.{lines-le}
 use Rattle.tally.specs.Names.{number_of}
-use Rattle.tally.specs.Tally.{count, tally_by, count_over, more, counted, tallied, nothing}
+use Rattle.tally.specs.Tally.{counts_at, count, tally_by, count_over, more, counted, tallied, nothing}
 use Rattle.tally.specs.Compare.{counts_of}
 use Rattle.tally.specs.declared.Tally.{Tally}
 use Rattle.tally.proofs.Laws.Name.{never_second}
@@ -30,7 +29,7 @@ mores own (l ∷ ls) m = mores own ls (more own (number_of l) m)
 more-count : (own : ℕ) (ls : List (List ℕ)) (m : ℕ) → m + length ls < 2 ^ 64 → mores own ls m ≡ m + count own ls
 unfolding more count
 more-count own [] m h = omega arith
-more-count own (l ∷ ls) m h = go (eqb (number_of l) own) (more-count own ls)
+more-count own (l ∷ ls) m h = go (counts_at own (number_of l)) (more-count own ls)
   where
     go : (b : Bool) → ((n : ℕ) → n + length ls < 2 ^ 64 → mores own ls n ≡ n + count own ls)
         → mores own ls (cond b (min (m + 1) (2 ^ 64 - 1)) m) ≡ m + cond b (suc (count own ls)) (count own ls)

@@ -1,18 +1,17 @@
--- `tally::more` meets its contract: by whether the line is its own, and by the last count that there is.
+-- `tally::more` meets its contract: by whether the line is its own.
 -- Assumes nothing.
-use native.Mathlib.Omega.{arith}
 use borrow.Author.Tests.{eq-eqb, ne_eqb}
 use Rattle.tally.specs.Tally.{more}
 use Rattle.tally.proofs.more.Goals as goal
 
-pub returns-then-number-own : goal.returns-then-number-own
+pub returns-in-Some : goal.returns-in-Some
 unfolding more
-returns-then-number-own c = simp (ne_eqb _ _ c.if-number-own.true)
+returns-in-Some c = rw (c.in-Some.is, eq-eqb _ _ c.if-n-own.true) c.saturating_add.ensures
 
-pub returns-then-count-eq18446744073709551615 : goal.returns-then-count-eq18446744073709551615
+pub returns-in_default : goal.returns-in_default
 unfolding more
-returns-then-count-eq18446744073709551615 c = rw (eq-eqb _ _ c.if-number-own.false) (omega (arith, c.if-count-eq18446744073709551615.true))
+returns-in_default c = simp (c.in-Some.is, ne_eqb _ _ c.if-n-own.false)
 
-pub returns : goal.returns
+pub returns-in_default-2 : goal.returns-in_default-2
 unfolding more
-returns c = rw (eq-eqb _ _ c.if-number-own.false) (omega (arith, c.if-count-eq18446744073709551615.false))
+returns-in_default-2 c = simp c.in_default.is

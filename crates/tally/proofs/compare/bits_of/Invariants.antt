@@ -5,6 +5,3 @@ use Rattle.tally.proofs.compare.bits_of.Given as goal
 
 abbrev pub invariant-loop-i : goal.invariant-loop-i
 invariant-loop-i l = Upto l.counted l.said l.i l.bits
-
-abbrev pub decreases-loop-i : goal.decreases-loop-i
-decreases-loop-i l = l.i
