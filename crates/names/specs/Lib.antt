@@ -1,3 +1,2 @@
--- The words that the contracts of this crate cite: what fields are called, and the table of it as the code holds it.
+-- The words that the contracts of this crate cite: what fields are called.
 pub mod Names
-pub mod Rows

@@ -5,6 +5,7 @@ use Prim.Native.String.{String}
 use Rattle.line.specs.Bytes.{bytes}
 use Rattle.kind.specs.Kind.{number_of}
 use Rattle.kind.specs.declared.Kind.{Kind}
+use Rattle.names.specs.declared.Field.{Field}
 use Rattle.kind.specs.declared.Kind.TheVariants.{Remark, Atom, Anisou, Cryst1, Scale, Mtrix, Model, Master, Dbref, Dbref1, Dbref2, Seqres, Seqadv, Modres, Ssbond}
 
 -- whether a text has no LF
@@ -182,6 +183,14 @@ fields =
     ∷ called Ssbond 66 "second symmetry operator" "no text" 19
     ∷ called Ssbond 73 "bond length" "0.0" 19
     ∷ []
+
+-- a field as the code has it
+abbrev pub called_by : Field → Called
+called_by f = record { kind = number_of f.0; column = f.1; name = f.2.now; default = f.3.now; group = f.4 }
+
+-- whether a field is of a family at a column
+abbrev pub is_of : ℕ → ℕ → Field → Bool
+is_of family column f = eqb (number_of f.0) family && eqb f.1 column
 
 -- any other column
 abbrev pub other : Called

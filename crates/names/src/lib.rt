@@ -1,142 +1,184 @@
-// What fields are called, by kind and column; what was put where one wasn't read; and the groups of a summary. The table is held as numbers and as
-// words, in one order.
+// What fields are called, by kind and column; what was put where one wasn't read; and the groups of a summary.
 #![tactic(auto)]
 
-ghost use Rattle.std.specs.Prelude.{◌≡◌, ◌/◌, ◌%◌, ◌<◌, length};
+ghost use Rattle.std.specs.Prelude.{◌≡◌, find, map};
 ghost use Rattle.kind.specs.Kind.{number_of};
 ghost use Rattle.names.specs.Names as specs;
-ghost use Rattle.names.specs.Rows as rows;
 ghost use Rattle.page.specs.Page.{page, put};
 
-use crate::words::put_word;
 use kind::Kind;
 use kind::numbered::number_of;
+use page::put_bytes;
 
-mod words;
+// A field: the first kind that has it, its column, what it is called, what is put where it isn't read, and its group.
+#[derive(Clone, Copy)]
+struct Field(Kind, usize, &'static [u8], &'static [u8], usize);
 
-// A number for each field: its kind, three digits for the column, one for what is put there, two for the group. The last is that of any other column.
-const FIELDS: [usize; 121] = [
-    2_007_0_19,
-    3_006_0_00,
-    3_012_3_01,
-    3_016_5_02,
-    3_017_3_03,
-    3_021_4_04,
-    3_022_0_05,
-    3_026_5_06,
-    3_030_1_07,
-    3_038_1_08,
-    3_046_1_09,
-    3_054_2_10,
-    3_060_1_11,
-    3_072_3_12,
-    3_076_3_13,
-    3_078_0_14,
-    3_079_0_14,
-    5_006_0_00,
-    5_012_3_01,
-    5_016_5_02,
-    5_017_3_03,
-    5_021_4_04,
-    5_022_0_05,
-    5_026_5_06,
-    5_028_1_15,
-    5_035_1_15,
-    5_042_1_15,
-    5_049_1_15,
-    5_056_1_15,
-    5_063_1_15,
-    5_072_3_12,
-    5_076_3_13,
-    5_078_0_14,
-    5_079_0_14,
-    6_006_1_16,
-    6_015_1_16,
-    6_024_1_16,
-    6_033_1_16,
-    6_040_1_16,
-    6_047_1_16,
-    6_066_0_16,
-    7_010_1_17,
-    7_020_1_17,
-    7_030_1_17,
-    7_045_1_17,
-    13_007_0_17,
-    13_010_1_17,
-    13_020_1_17,
-    13_030_1_17,
-    13_045_1_17,
-    16_006_0_19,
-    16_010_0_19,
-    17_010_0_19,
-    17_015_0_19,
-    17_020_0_19,
-    17_025_0_19,
-    17_030_0_19,
-    17_035_0_19,
-    17_040_0_19,
-    17_045_0_19,
-    17_050_0_19,
-    17_055_0_19,
-    17_060_0_19,
-    17_065_0_19,
-    18_007_3_18,
-    18_012_3_18,
-    18_014_0_18,
-    18_018_4_18,
-    18_020_0_18,
-    18_024_4_18,
-    18_026_3_18,
-    18_033_3_18,
-    18_042_3_18,
-    18_055_0_18,
-    18_060_4_18,
-    18_062_0_18,
-    18_067_4_18,
-    19_007_3_18,
-    19_012_3_18,
-    19_014_0_18,
-    19_018_4_18,
-    19_020_0_18,
-    19_021_0_18,
-    19_024_4_18,
-    19_026_3_18,
-    19_047_3_18,
-    20_007_3_18,
-    20_012_3_18,
-    20_018_3_18,
-    20_045_0_18,
-    20_057_0_18,
-    21_007_0_18,
-    21_011_4_18,
-    21_013_0_18,
-    22_007_3_18,
-    22_012_3_18,
-    22_016_3_18,
-    22_018_0_18,
-    22_022_5_18,
-    22_024_3_18,
-    22_029_3_18,
-    22_039_3_18,
-    22_043_0_18,
-    23_007_3_18,
-    23_012_3_18,
-    23_016_4_18,
-    23_018_0_18,
-    23_022_5_18,
-    23_024_3_18,
-    24_011_3_19,
-    24_015_4_19,
-    24_017_0_19,
-    24_021_5_19,
-    24_025_3_19,
-    24_029_4_19,
-    24_031_0_19,
-    24_035_5_19,
-    24_059_3_19,
-    24_066_3_19,
-    24_073_1_19,
-    5_19,
+// Any other column.
+const OTHER: Field = Field(Kind::Empty, 0, b"field", b"nothing", 19);
+
+const FIELDS: [Field; 120] = [
+    Field(Kind::Remark, 7, b"remark number", b"0", 19),
+    Field(Kind::Atom, 6, b"serial number", b"0", 0),
+    Field(Kind::Atom, 12, b"atom name", b"no text", 1),
+    Field(Kind::Atom, 16, b"alternate location", b"nothing", 2),
+    Field(Kind::Atom, 17, b"residue name", b"no text", 3),
+    Field(Kind::Atom, 21, b"chain", b"a blank", 4),
+    Field(Kind::Atom, 22, b"residue number", b"0", 5),
+    Field(Kind::Atom, 26, b"insertion code", b"nothing", 6),
+    Field(Kind::Atom, 30, b"x", b"0.0", 7),
+    Field(Kind::Atom, 38, b"y", b"0.0", 8),
+    Field(Kind::Atom, 46, b"z", b"0.0", 9),
+    Field(Kind::Atom, 54, b"occupancy", b"1.0", 10),
+    Field(Kind::Atom, 60, b"B factor", b"0.0", 11),
+    Field(Kind::Atom, 72, b"segment", b"no text", 12),
+    Field(Kind::Atom, 76, b"element", b"no text", 13),
+    Field(Kind::Atom, 78, b"charge", b"0", 14),
+    Field(Kind::Atom, 79, b"charge", b"0", 14),
+    Field(Kind::Anisou, 6, b"serial number", b"0", 0),
+    Field(Kind::Anisou, 12, b"atom name", b"no text", 1),
+    Field(Kind::Anisou, 16, b"alternate location", b"nothing", 2),
+    Field(Kind::Anisou, 17, b"residue name", b"no text", 3),
+    Field(Kind::Anisou, 21, b"chain", b"a blank", 4),
+    Field(Kind::Anisou, 22, b"residue number", b"0", 5),
+    Field(Kind::Anisou, 26, b"insertion code", b"nothing", 6),
+    Field(Kind::Anisou, 28, b"U11", b"0.0", 15),
+    Field(Kind::Anisou, 35, b"U22", b"0.0", 15),
+    Field(Kind::Anisou, 42, b"U33", b"0.0", 15),
+    Field(Kind::Anisou, 49, b"U12", b"0.0", 15),
+    Field(Kind::Anisou, 56, b"U13", b"0.0", 15),
+    Field(Kind::Anisou, 63, b"U23", b"0.0", 15),
+    Field(Kind::Anisou, 72, b"segment", b"no text", 12),
+    Field(Kind::Anisou, 76, b"element", b"no text", 13),
+    Field(Kind::Anisou, 78, b"charge", b"0", 14),
+    Field(Kind::Anisou, 79, b"charge", b"0", 14),
+    Field(Kind::Cryst1, 6, b"a", b"0.0", 16),
+    Field(Kind::Cryst1, 15, b"b", b"0.0", 16),
+    Field(Kind::Cryst1, 24, b"c", b"0.0", 16),
+    Field(Kind::Cryst1, 33, b"alpha", b"0.0", 16),
+    Field(Kind::Cryst1, 40, b"beta", b"0.0", 16),
+    Field(Kind::Cryst1, 47, b"gamma", b"0.0", 16),
+    Field(Kind::Cryst1, 66, b"Z", b"0", 16),
+    Field(Kind::Scale(0), 10, b"first matrix element", b"0.0", 17),
+    Field(Kind::Scale(0), 20, b"second matrix element", b"0.0", 17),
+    Field(Kind::Scale(0), 30, b"third matrix element", b"0.0", 17),
+    Field(Kind::Scale(0), 45, b"translation", b"0.0", 17),
+    Field(Kind::Mtrix(0), 7, b"serial number", b"0", 17),
+    Field(Kind::Mtrix(0), 10, b"first matrix element", b"0.0", 17),
+    Field(Kind::Mtrix(0), 20, b"second matrix element", b"0.0", 17),
+    Field(Kind::Mtrix(0), 30, b"third matrix element", b"0.0", 17),
+    Field(Kind::Mtrix(0), 45, b"translation", b"0.0", 17),
+    Field(Kind::Model, 6, b"model number", b"0", 19),
+    Field(Kind::Model, 10, b"model number", b"0", 19),
+    Field(Kind::Master, 10, b"REMARK count", b"0", 19),
+    Field(Kind::Master, 15, b"zero", b"0", 19),
+    Field(Kind::Master, 20, b"HET count", b"0", 19),
+    Field(Kind::Master, 25, b"HELIX count", b"0", 19),
+    Field(Kind::Master, 30, b"SHEET count", b"0", 19),
+    Field(Kind::Master, 35, b"TURN count", b"0", 19),
+    Field(Kind::Master, 40, b"SITE count", b"0", 19),
+    Field(Kind::Master, 45, b"ORIGX, SCALE and MTRIX count", b"0", 19),
+    Field(Kind::Master, 50, b"ATOM and HETATM count", b"0", 19),
+    Field(Kind::Master, 55, b"TER count", b"0", 19),
+    Field(Kind::Master, 60, b"CONECT count", b"0", 19),
+    Field(Kind::Master, 65, b"SEQRES count", b"0", 19),
+    Field(Kind::Dbref, 7, b"entry code", b"no text", 18),
+    Field(Kind::Dbref, 12, b"chain", b"no text", 18),
+    Field(Kind::Dbref, 14, b"first residue number", b"0", 18),
+    Field(Kind::Dbref, 18, b"first insertion code", b"a blank", 18),
+    Field(Kind::Dbref, 20, b"last residue number", b"0", 18),
+    Field(Kind::Dbref, 24, b"last insertion code", b"a blank", 18),
+    Field(Kind::Dbref, 26, b"database", b"no text", 18),
+    Field(Kind::Dbref, 33, b"accession code", b"no text", 18),
+    Field(Kind::Dbref, 42, b"database entry name", b"no text", 18),
+    Field(Kind::Dbref, 55, b"first database number", b"0", 18),
+    Field(
+        Kind::Dbref,
+        60,
+        b"first database insertion code",
+        b"a blank",
+        18,
+    ),
+    Field(Kind::Dbref, 62, b"last database number", b"0", 18),
+    Field(
+        Kind::Dbref,
+        67,
+        b"last database insertion code",
+        b"a blank",
+        18,
+    ),
+    Field(Kind::Dbref1, 7, b"entry code", b"no text", 18),
+    Field(Kind::Dbref1, 12, b"chain", b"no text", 18),
+    Field(Kind::Dbref1, 14, b"first residue number", b"0", 18),
+    Field(Kind::Dbref1, 18, b"first insertion code", b"a blank", 18),
+    Field(Kind::Dbref1, 20, b"last residue number", b"0", 18),
+    Field(Kind::Dbref1, 21, b"last residue number", b"0", 18),
+    Field(Kind::Dbref1, 24, b"last insertion code", b"a blank", 18),
+    Field(Kind::Dbref1, 26, b"database", b"no text", 18),
+    Field(Kind::Dbref1, 47, b"database entry name", b"no text", 18),
+    Field(Kind::Dbref2, 7, b"entry code", b"no text", 18),
+    Field(Kind::Dbref2, 12, b"chain", b"no text", 18),
+    Field(Kind::Dbref2, 18, b"accession code", b"no text", 18),
+    Field(Kind::Dbref2, 45, b"first database number", b"0", 18),
+    Field(Kind::Dbref2, 57, b"last database number", b"0", 18),
+    Field(Kind::Seqres, 7, b"serial number", b"0", 18),
+    Field(Kind::Seqres, 11, b"chain", b"a blank", 18),
+    Field(Kind::Seqres, 13, b"number of residues", b"0", 18),
+    Field(Kind::Seqadv, 7, b"entry code", b"no text", 18),
+    Field(Kind::Seqadv, 12, b"residue name", b"no text", 18),
+    Field(Kind::Seqadv, 16, b"chain", b"no text", 18),
+    Field(Kind::Seqadv, 18, b"residue number", b"0", 18),
+    Field(Kind::Seqadv, 22, b"insertion code", b"nothing", 18),
+    Field(Kind::Seqadv, 24, b"database", b"no text", 18),
+    Field(Kind::Seqadv, 29, b"accession code", b"no text", 18),
+    Field(Kind::Seqadv, 39, b"database residue name", b"no text", 18),
+    Field(Kind::Seqadv, 43, b"database residue number", b"0", 18),
+    Field(Kind::Modres, 7, b"entry code", b"no text", 18),
+    Field(Kind::Modres, 12, b"residue name", b"no text", 18),
+    Field(Kind::Modres, 16, b"chain", b"a blank", 18),
+    Field(Kind::Modres, 18, b"residue number", b"0", 18),
+    Field(Kind::Modres, 22, b"insertion code", b"nothing", 18),
+    Field(Kind::Modres, 24, b"standard residue name", b"no text", 18),
+    Field(Kind::Ssbond, 11, b"first residue name", b"no text", 19),
+    Field(Kind::Ssbond, 15, b"first chain", b"a blank", 19),
+    Field(Kind::Ssbond, 17, b"first residue number", b"0", 19),
+    Field(Kind::Ssbond, 21, b"first insertion code", b"nothing", 19),
+    Field(Kind::Ssbond, 25, b"second residue name", b"no text", 19),
+    Field(Kind::Ssbond, 29, b"second chain", b"a blank", 19),
+    Field(Kind::Ssbond, 31, b"second residue number", b"0", 19),
+    Field(Kind::Ssbond, 35, b"second insertion code", b"nothing", 19),
+    Field(Kind::Ssbond, 59, b"first symmetry operator", b"no text", 19),
+    Field(
+        Kind::Ssbond,
+        66,
+        b"second symmetry operator",
+        b"no text",
+        19,
+    ),
+    Field(Kind::Ssbond, 73, b"bond length", b"0.0", 19),
+];
+
+const GROUPS: [&[u8]; 20] = [
+    b"serial number",
+    b"atom name",
+    b"alternate location",
+    b"residue name",
+    b"chain",
+    b"residue number",
+    b"insertion code",
+    b"x",
+    b"y",
+    b"z",
+    b"occupancy",
+    b"B factor",
+    b"segment",
+    b"element",
+    b"charge",
+    b"U11 to U23",
+    b"CRYST1",
+    b"SCALE, ORIGX and MTRIX",
+    b"SEQRES, DBREF, SEQADV and MODRES",
+    b"other records",
 ];
 
 // Kinds that have the same fields go by the first of them.
@@ -159,112 +201,71 @@ fn family_of(kind: Kind) -> usize
     number
 }
 
-fn is_of(field: usize, family: usize, column: usize) -> bool
-    ensures { result ≡ rows.is_of field family column }
+// Whether a field is of a family at a column.
+fn is_of(field: Field, family: usize, column: usize) -> bool
+    ensures { result ≡ specs.is_of family column field }
 {
-    if field / 1000000 != family {
-        return false;
-    }
-    field / 1000 % 1000 == column
+    number_of(field.0) == family && field.1 == column
 }
 
-// The place of a field among some, or else the place behind them.
-fn find(fields: &[usize], family: usize, column: usize) -> usize
-    ensures { result ≡ rows.place_in family column fields.now }
+// The first of some fields that is of a family at a column.
+fn field_in(fields: &[Field], family: usize, column: usize) -> Option<Field>
+    ensures { result ≡ find (specs.is_of family column) fields.now }
 {
-    let mut i = 0;
-    while i < fields.len() {
-        if is_of(fields[i], family, column) {
-            return i;
-        }
-        i += 1;
-    }
-    i
+    fields
+        .iter()
+        .copied()
+        .find(|field| is_of(*field, family, column))
 }
 
-// The place of a field in the table; that of any other column is the last.
-fn place_of(kind: Kind, column: usize) -> usize
-    ensures { result ≡ rows.place_of (specs.family_of (number_of kind)) column specs.fields }
+// The same, or else any other column's.
+fn called_in(fields: &[Field], family: usize, column: usize) -> Field
+    ensures { specs.called_by result ≡ specs.called_in family column (map specs.called_by fields.now) }
 {
-    find(&FIELDS[..120], family_of(kind), column)
+    field_in(fields, family, column).unwrap_or(OTHER)
 }
 
-fn number_at(fields: &[usize], place: usize) -> usize
-    requires { place < length fields.now }
-    ensures { result ≡ rows.number_at fields.now place }
+// What is called by a kind and a column.
+fn called_at(kind: Kind, column: usize) -> Field
+    ensures { specs.called_by result ≡ specs.called_at kind column }
 {
-    fields[place]
-}
-
-// The number of a field.
-fn field_at(kind: Kind, column: usize) -> usize
-    ensures { (result % 100 ≡ specs.group_of kind column) × (rows.word_at (result / 100 % 10) rows.defaults ≡ specs.default_text kind column) }
-{
-    number_at(&FIELDS, place_of(kind, column))
+    called_in(&FIELDS, family_of(kind), column)
 }
 
 // A field's name.
 pub fn put_name(out: &mut [u8], at: usize, kind: Kind, column: usize) -> usize
     ensures { page out.new result ≡ put (page out.old at) (specs.name_of kind column) }
 {
-    let place = place_of(kind, column);
-    put_word(
-        out,
-        at,
-        b"\
-          remark number\nserial number\natom name\nalternate location\nresidue name\nchain\nresidue number\n\
-          insertion code\nx\ny\nz\noccupancy\nB factor\nsegment\nelement\ncharge\ncharge\nserial number\natom name\n\
-          alternate location\nresidue name\nchain\nresidue number\ninsertion code\nU11\nU22\nU33\nU12\nU13\nU23\n\
-          segment\nelement\ncharge\ncharge\na\nb\nc\nalpha\nbeta\ngamma\nZ\nfirst matrix element\n\
-          second matrix element\nthird matrix element\ntranslation\nserial number\nfirst matrix element\n\
-          second matrix element\nthird matrix element\ntranslation\nmodel number\nmodel number\nREMARK count\nzero\n\
-          HET count\nHELIX count\nSHEET count\nTURN count\nSITE count\nORIGX, SCALE and MTRIX count\n\
-          ATOM and HETATM count\nTER count\nCONECT count\nSEQRES count\nentry code\nchain\nfirst residue number\n\
-          first insertion code\nlast residue number\nlast insertion code\ndatabase\naccession code\n\
-          database entry name\nfirst database number\nfirst database insertion code\nlast database number\n\
-          last database insertion code\nentry code\nchain\nfirst residue number\nfirst insertion code\n\
-          last residue number\nlast residue number\nlast insertion code\ndatabase\ndatabase entry name\nentry code\n\
-          chain\naccession code\nfirst database number\nlast database number\nserial number\nchain\n\
-          number of residues\nentry code\nresidue name\nchain\nresidue number\ninsertion code\ndatabase\n\
-          accession code\ndatabase residue name\ndatabase residue number\nentry code\nresidue name\nchain\n\
-          residue number\ninsertion code\nstandard residue name\nfirst residue name\nfirst chain\n\
-          first residue number\nfirst insertion code\nsecond residue name\nsecond chain\nsecond residue number\n\
-          second insertion code\nfirst symmetry operator\nsecond symmetry operator\nbond length\nfield\n",
-        place,
-    )
+    put_bytes(out, at, called_at(kind, column).2)
 }
 
 // What was put where the field wasn't read.
 pub fn put_default(out: &mut [u8], at: usize, kind: Kind, column: usize) -> usize
     ensures { page out.new result ≡ put (page out.old at) (specs.default_text kind column) }
 {
-    let field = field_at(kind, column);
-    put_word(
-        out,
-        at,
-        b"0\n0.0\n1.0\nno text\na blank\nnothing\n",
-        field / 100 % 10,
-    )
+    put_bytes(out, at, called_at(kind, column).3)
 }
 
 // The group of a summary that a field's faults are counted in.
 pub fn group_of(kind: Kind, column: usize) -> usize
     ensures { result ≡ specs.group_of kind column }
 {
-    field_at(kind, column) % 100
+    called_at(kind, column).4
+}
+
+// The text at a place, if there is one.
+fn put_text(out: &mut [u8], at: usize, texts: &[&[u8]], place: usize) -> usize
+    ensures { page out.new result ≡ put (page out.old at) (specs.text_at place (map (λ t. t.now) texts.now)) }
+{
+    if place < texts.len() {
+        return put_bytes(out, at, texts[place]);
+    }
+    at
 }
 
 // A group's name. There is none from 20 on.
 pub fn put_group(out: &mut [u8], at: usize, group: usize) -> usize
     ensures { page out.new result ≡ put (page out.old at) (specs.group_name group) }
 {
-    put_word(
-        out,
-        at,
-        b"\
-          serial number\natom name\nalternate location\nresidue name\nchain\nresidue number\ninsertion code\nx\ny\nz\n\
-          occupancy\nB factor\nsegment\nelement\ncharge\nU11 to U23\nCRYST1\nSCALE, ORIGX and MTRIX\n\
-          SEQRES, DBREF, SEQADV and MODRES\nother records\n",
-        group,
-    )
+    put_text(out, at, &GROUPS, group)
 }

@@ -1,11 +1,8 @@
--- `names::put_group` meets its contract: the words are the groups.
+-- `names::put_group` meets its contract: the texts are the groups.
 -- Assumes nothing.
-use mathlib.Core.Path.{ap, ◌∙◌}
-use Rattle.names.specs.Names.{groups, group_name}
-use Rattle.names.proofs.Laws.Table.{word-text}
-use Rattle.page.specs.Page.{put}
+use Rattle.names.specs.Names.{group_name}
 use Rattle.names.proofs.put_group.Goals as goal
 
 pub returns : goal.returns
 unfolding group_name
-returns c = c.put_word.ensures ∙ ap (put _) (word-text _ groups tt _)
+returns c = c.put_text.ensures

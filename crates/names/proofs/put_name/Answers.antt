@@ -1,11 +1,10 @@
--- `names::put_name` meets its contract: the words are the names of the fields, and behind them that of any other column.
+-- `names::put_name` meets its contract: the field that is called there has it.
 -- Assumes nothing.
 use mathlib.Core.Path.{ap, ◌∙◌}
-use Rattle.names.specs.Names.{fields, name_of}
-use Rattle.names.proofs.Laws.Table.{field-name}
 use Rattle.page.specs.Page.{put}
+use Rattle.names.specs.Names.{Called, name_of}
 use Rattle.names.proofs.put_name.Goals as goal
 
 pub returns : goal.returns
-unfolding fields name_of
-returns c = c.put_word.ensures ∙ ap (put _) (rw c.place_of-place.ensures (field-name _ _ _ fields tt))
+unfolding name_of
+returns c = c.put_bytes.ensures ∙ ap (put _) (ap (λ (f : Called). f.name) c.called_at.ensures)
