@@ -4,7 +4,7 @@ use mathlib.Core.Path.{ap, ◌∙◌}
 use native.Mathlib.Omega.{arith}
 use Rattle.page.proofs.Laws.Hex.{hex_more, hex_done}
 use Rattle.page.specs.Page.{put}
-use Rattle.page.specs.Numerals.{hex_before, hex16}
+use Rattle.page.specs.Numerals.{hex16}
 use borrow.Author.Rules.{rules}
 use Rattle.page.proofs.put_hex.Goals as goal
 
