@@ -12,20 +12,20 @@ returns-then-line-at c =
     let l = c.args.line.now in
     let h = c.loop-n-test.true in
     elim c.then-line-at.branch [
-      | then-line-at-via-then-line-at w ↦ let e = triples-short l n (19 + 4 * n) h w.if-line-at.true in omega arith
+      | then-line-at-via-then-line-at w ↦ omega (arith, triples-short l n _ h w.if-line-at.true)
       | then-line-at-via-else-line-at+then-is_blank_triple w ↦
-          let e = triples-blank l n (19 + 4 * n) h w.if-line-at.false (sym w.is_blank_triple.ensures ∙ w.if-is_blank_triple.true) in omega arith
+          omega (arith, triples-blank l n _ h w.if-line-at.false (sym w.is_blank_triple.ensures ∙ w.if-is_blank_triple.true))
     ]
 
 pub loop-n-preserved : goal.loop-n-preserved
 loop-n-preserved c =
     let n = c.loop-n.n in
     let e =
-    triples-on c.args.line.now n (19 + 4 * n) c.loop-n-test.true c.if-line-at.false
+    triples-on c.args.line.now n _ c.loop-n-test.true c.if-line-at.false
     (sym c.is_blank_triple.ensures ∙ c.if-is_blank_triple.false) in
     let next : 19 + 4 * n + 4 ≡ 19 + 4 * (n + 1) = omega arith in
     let on = rw next at e in
     omega arith
 
 pub returns : goal.returns
-returns c = let e = triples_all c.args.line.now c.loop-n.n (19 + 4 * c.loop-n.n) c.loop-n-test.false in omega arith
+returns c = omega (arith, triples_all c.args.line.now c.loop-n.n (19 + 4 * c.loop-n.n) c.loop-n-test.false)
