@@ -1,6 +1,7 @@
 // ATOM, HETATM and ANISOU. The coordinates' faults come before those of what the kinds share, as lexer.rs reads them first.
 // Nearly every line of a file is an atom without a fault, so an atom is read without a list of faults first. Only if a field
-// isn't fine is it read again, with the list going through, and with exponents where they are asked for.
+// isn't fine is it read again, with the list going through, and with exponents where they are asked for. What the quick path calls is
+// compiled into it, so that the columns are known there.
 ghost use Rattle.std.specs.Prelude.{◌≡◌, false};
 ghost use Rattle.field.specs.Number.{fine_unsigned, fine_signed, fine_real};
 ghost use Rattle.field.specs.Table.{line_noted, table_noted};
@@ -133,6 +134,7 @@ fn lex_atom_noted(line: &[u8], hetero: bool, exponents: bool) -> Got<Atom>
     }
 }
 
+#[inline(always)]
 fn quick_serial(line: &[u8]) -> Option<u64>
     ensures { result ≡ fine_unsigned line.now (specs.at serial) }
 {
@@ -142,6 +144,7 @@ fn quick_serial(line: &[u8]) -> Option<u64>
     ))
 }
 
+#[inline(always)]
 fn quick_number(line: &[u8]) -> Option<i64>
     ensures { result ≡ fine_signed line.now (specs.at number) }
 {
@@ -152,6 +155,7 @@ fn quick_number(line: &[u8]) -> Option<i64>
 }
 
 // A coordinate, which has eight columns and three digits behind its point in nearly every line.
+#[inline(always)]
 fn quick_coordinate(line: &[u8], at: Columns) -> Option<Real>
     ensures { result ≡ fine_real false line.now at }
 {
@@ -159,6 +163,7 @@ fn quick_coordinate(line: &[u8], at: Columns) -> Option<Real>
 }
 
 // An occupancy or a temperature factor, which has six and two.
+#[inline(always)]
 fn quick_share(line: &[u8], at: Columns) -> Option<Real>
     ensures { result ≡ fine_real false line.now at }
 {

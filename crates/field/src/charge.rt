@@ -25,6 +25,7 @@ fn read_charge(digit: u8, sign: u8) -> Option<i64>
 }
 
 // A line that doesn't reach both columns has no charge, and one with two blanks neither.
+#[inline(always)]
 pub fn fine_charge(line: &[u8], at: Columns) -> Option<i64>
     ensures { result ≡ specs.fine_charge line.now at }
 {

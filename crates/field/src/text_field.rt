@@ -25,6 +25,7 @@ fn is_whole(part: &[u8]) -> bool
 }
 
 // Where the trimmed text of a part lies in the line, the part starting there at a column.
+#[inline(always)]
 fn shifted(start: usize, part: &[u8]) -> Text
     requires { start ≤ 65535 }
     ensures { result ≡ specs.shifted start (span_of part.now) }
@@ -40,6 +41,7 @@ fn shifted(start: usize, part: &[u8]) -> Text
 }
 
 // A line that ends before the field's last column has a fault there.
+#[inline(always)]
 pub fn fine_text(line: &[u8], at: Columns) -> Option<Text>
     ensures { result ≡ specs.fine_text line.now at }
 {
