@@ -52,6 +52,7 @@ fn write_values(
     end(out, &bytes, miss)
 }
 
+// SCALE's row and ORIGX's differ in the name alone. Two names for callers stay: a name as an argument would have to be five bytes.
 pub fn write_scale(
     row: usize,
     values: Transformation,

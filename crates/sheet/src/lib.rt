@@ -90,7 +90,8 @@ fn put_figure(out: &mut [u8], at: usize, width: usize, figure: Figure) -> Put
     }
 }
 
-// A figure in its columns.
+// A figure in its columns. This and the next two differ in the call between `fill` and `mark`: one function that is handed that call as a closure
+// would need what the closure promises as a clause, and is longer than all three.
 pub fn draw_figure(out: &mut [u8], pen: Pen, at: Columns, figure: Figure) -> Pen
     ensures { specs.draft out.new result ≡ specs.drawn (specs.draft out.old pen) (at holds putFigure figure) }
 {

@@ -12,7 +12,6 @@ use borrow.Author.Tests.{le-ltb}
 use lib.ListN.{length, take, drop}
 use native.Mathlib.Nat.{zero-add}
 use Rattle.std.specs.Prelude.{None, Ok}
-use Rattle.line.specs.declared.columns.Columns.{Columns}
 use Rattle.page.specs.Page.{Page, page, put}
 use Rattle.page.proofs.Laws.Page.{put_then, put_over}
 use Rattle.cell.specs.Cell.{Puts}

@@ -16,8 +16,7 @@ use Rattle.sheet.specs.When.{When}
 use Rattle.std.specs.Prelude.{Err}
 use Rattle.sheet.specs.declared.Unwritten.TheVariants.{NoFit}
 use Rattle.sheet.proofs.Laws.When.{written_when}
-use Rattle.transformation.specs.declared.record.Scale.{Scale}
-use Rattle.transformation.specs.declared.record.OrigX.{OrigX}
+use Rattle.transformation.specs.declared.record.NumberedRow.{NumberedRow}
 use Rattle.transformation.specs.declared.record.MtriX.{MtriX}
 use Rattle.printer.proofs.Laws.Sheets.{name-six}
 use Rattle.lexitem.specs.declared.item.LexItem.{LexItem}
@@ -64,8 +63,8 @@ other-refused item line standIn name asked old new r e w =
 
 -- the row of a SCALEn, an ORIGXn and an MTRIXn
 pub data RowOf : LexItem → ℕ → Type 0 where
-  scale : (v : Scale) → RowOf (item.Scale v) v.row
-  origx : (v : OrigX) → RowOf (item.OrigX v) v.row
+  scale : (v : NumberedRow) → RowOf (item.Scale v) v.row
+  origx : (v : NumberedRow) → RowOf (item.OrigX v) v.row
   mtrix : (v : MtriX) → RowOf (item.MtriX v) v.row
 
 -- no field is in front of it, so what else doesn't fit is not told
