@@ -12,7 +12,8 @@ use Rattle.lexitem.specs.Fault.{no_line_faults, stamped_as}
 use Rattle.lexitem.specs.Read.{got_item}
 use Rattle.lexitem.specs.declared.bound.Bound.{Bound}
 use Rattle.lexitem.specs.declared.bound.Bound.TheVariants as bound
-use Rattle.lexitem.specs.declared.read.GotItem.{GotItem}
+use Rattle.lexitem.specs.declared.item.LexItem.{LexItem}
+use Rattle.line.specs.declared.fault.Got.{Got}
 use Rattle.lexer.specs.Refusals.{Test, table_test, line_tests}
 use Rattle.lexer.specs.Refusals.Asking.{its_record}
 use Rattle.lexer.specs.Lexed.{first_of}
@@ -53,7 +54,7 @@ own_test bound.Free l loose = Ok tt
 abbrev pub refused_with : ℕ → Refusal → Answer
 refused_with line r = record { line = line; outcome = Err r; faults = no_line_faults }
 
-abbrev pub answer_of : ℕ → Kind → GotItem → Answer
+abbrev pub answer_of : ℕ → Kind → Got LexItem → Answer
 answer_of line k x = record { line = line; outcome = Ok x.value; faults = stamped_as line k x.faults }
 
 unfoldable pub read_as : ℕ → Kind → Given → Answer

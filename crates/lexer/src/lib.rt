@@ -17,7 +17,9 @@ use kind::{Kind, kind_of};
 use lexitem::answer::{Answer, Refusal};
 use lexitem::bound::bound_of;
 use lexitem::fault::LineFaults;
-use lexitem::read::{GotItem, lex_as};
+use lexitem::item::LexItem;
+use lexitem::read::lex_as;
+use line::fault::Got;
 use line::options::Options;
 
 // The highest byte of a line, 0 if it has none. The loop has no way out, so that many bytes go at once.
@@ -134,15 +136,13 @@ fn refuse(line: usize, refusal: Refusal) -> Answer
 }
 
 // A record with its faults, each of which gets the line's number and kind here.
-fn accept(line: usize, kind: Kind, got: GotItem) -> Answer
+fn accept(line: usize, kind: Kind, got: Got<LexItem>) -> Answer
     ensures { result ≡ steps.answer_of line kind got }
 {
-    let faults = got.faults;
-    let item = got.value;
     Answer {
         line,
-        outcome: Ok(item),
-        faults: LineFaults::of(line, kind, faults),
+        outcome: Ok(got.value),
+        faults: LineFaults::of(line, kind, got.faults),
     }
 }
 
@@ -154,12 +154,12 @@ fn lex_kind(number: usize, kind: Kind, line: &[u8], options: Options, remarks: &
         Kind::Atom => accept(
             number,
             kind,
-            GotItem::atom(lex_atom(line, false, options.exponents)),
+            lex_atom(line, false, options.exponents).map(LexItem::Atom),
         ),
         Kind::Hetatm => accept(
             number,
             kind,
-            GotItem::atom(lex_atom(line, true, options.exponents)),
+            lex_atom(line, true, options.exponents).map(LexItem::Atom),
         ),
         _ => accept(number, kind, lex_as(kind, line, options, remarks)),
     }

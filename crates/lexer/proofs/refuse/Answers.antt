@@ -1,7 +1,0 @@
--- `lexer::refuse` meets its contract.
--- Assumes nothing.
-use mathlib.Core.Path.{refl}
-use Rattle.lexer.proofs.refuse.Goals as goal
-
-pub returns : goal.returns
-returns c = rw c.none.ensures refl
