@@ -1,18 +1,15 @@
 -- The entries that collect rows and move a position: "A matrix is twelve doubles, row by row, and three bytes that say which rows are set.
 -- matrix_row: 13 for a row above 2; then 8 (0, 12) or 8 (0, 3) for arrays that are too short; else it writes the four and makes set[row] 1. apply:
 -- 14 unless twelve doubles and three bytes other than 0 are there; then 8 (0, 3); else out[0] to [2]."
-use Rattle.std.specs.Prelude.{ℕ, ◌+◌, ◌*◌, ◌≡◌, cond, List, length, get_or, set, eqb, ltb, Float}
+use Rattle.std.specs.Prelude.{ℕ, ◌+◌, ◌*◌, ◌≡◌, cond, List, length, get_or, set, eqb, ltb, Float, Option, Some, None}
 use Rattle.std.specs.Float.{nan}
 use Rattle.transformation.specs.declared.record.Transformation.{Transformation}
 use Rattle.atom.specs.declared.record.Position.{Position}
 use Rattle.packing.specs.Packed.{packed_as}
 use Rattle.matrix.specs.Rows.{whole, numbers_of_whole}
 use Rattle.matrix.specs.Apply.{applied}
-use Rattle.matrix.specs.declared.Slot.{Slot}
-use Rattle.matrix.specs.declared.Slot.TheVariants.{Set, Unset}
+use Rattle.matrix.specs.declared.Matrix.{Matrix}
 use Rattle.matrix.specs.declared.Rows.{Rows}
-use Rattle.matrix.specs.declared.Handed.{Handed}
-use Rattle.matrix.specs.declared.Handed.TheVariants.{Whole, RowUnset}
 
 -- ---- the lent rows
 -- four doubles of a list, from a place on
@@ -25,13 +22,13 @@ row_at rows i = record {
 }
 
 -- a row is set if its byte isn't 0 and its doubles are there; a byte that isn't there is 0
-abbrev pub slot_at : List Float → List ℕ → ℕ → Slot
-slot_at rows marks n = cond (eqb (get_or marks n 0) 0) Unset (cond (ltb (length rows) (4 * n + 4)) Unset (Set (row_at rows (4 * n))))
+abbrev pub slot_at : List Float → List ℕ → ℕ → Option Transformation
+slot_at rows marks n = cond (eqb (get_or marks n 0) 0) None (cond (ltb (length rows) (4 * n + 4)) None (Some (row_at rows (4 * n))))
 
 abbrev pub rows_in : List Float → List ℕ → Rows
 rows_in rows marks = record { first = slot_at rows marks 0; second = slot_at rows marks 1; third = slot_at rows marks 2 }
 
-abbrev pub handed_by : List Float → List ℕ → Handed
+abbrev pub handed_by : List Float → List ℕ → Option Matrix
 handed_by rows marks = whole (rows_in rows marks)
 
 -- ---- collecting
@@ -55,18 +52,18 @@ pub record Collects (rows : List Float) (marks : List ℕ) (n : ℕ) (r : Transf
 
 -- ---- applying
 -- number, place and length for a matrix, or none, and so many doubles of room
-abbrev pub applying : Handed → ℕ → ℕ × ℕ × ℕ
-applying RowUnset room = numbers_of_whole RowUnset
-applying (Whole m) room = cond (ltb room 3) (8, 0, 3) (0, 0, 0)
+abbrev pub applying : Option Matrix → ℕ → ℕ × ℕ × ℕ
+applying None room = numbers_of_whole None
+applying (Some m) room = cond (ltb room 3) (8, 0, 3) (0, 0, 0)
 
 abbrev pub three_put : List Float → Position → List Float
 three_put out p = set (set (set out 0 p.x) 1 p.y) 2 p.z
 
-abbrev pub moved : Handed → Position → List Float → List Float
-moved RowUnset p out = out
-moved (Whole m) p out = cond (ltb (length out) 3) out (three_put out (applied m p))
+abbrev pub moved : Option Matrix → Position → List Float → List Float
+moved None p out = out
+moved (Some m) p out = cond (ltb (length out) 3) out (three_put out (applied m p))
 
 -- what applying answers for what the lent rows hand out, and every lent double afterwards
-pub record Applies (handed : Handed) (p : Position) (old : List Float) (answer : ℕ) (new : List Float) : Type 0 where
+pub record Applies (handed : Option Matrix) (p : Position) (old : List Float) (answer : ℕ) (new : List Float) : Type 0 where
   pub answers : answer ≡ packed_as (applying handed (length old))
   pub leaves : new ≡ moved handed p old

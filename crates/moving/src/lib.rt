@@ -6,25 +6,22 @@ ghost use Rattle.moving.specs.Matrix as specs;
 ghost use Rattle.std.specs.Prelude.{◌≡◌, ◌<◌, ◌≤◌, ◌+◌, length};
 
 use atom::record::Position;
-use matrix::{Handed, Rows, Slot, apply, whole};
+use matrix::{Rows, apply, whole};
 use transformation::record::Transformation;
 
 // The row of a number, set if its byte isn't 0 and its doubles are there.
-fn slot(rows: &[f64], set: &[u8], number: usize) -> Slot
+fn slot(rows: &[f64], set: &[u8], number: usize) -> Option<Transformation>
     requires { number < 3 }
     ensures { result ≡ specs.slot_at rows.now set.now number }
 {
-    if set.len() <= number {
-        return Slot::Unset;
-    }
-    if set[number] == 0 {
-        return Slot::Unset;
+    if set.len() <= number || set[number] == 0 {
+        return None;
     }
     let at = 4 * number;
     if rows.len() < at + 4 {
-        return Slot::Unset;
+        return None;
     }
-    Slot::Set(Transformation {
+    Some(Transformation {
         a: rows[at],
         b: rows[at + 1],
         c: rows[at + 2],
@@ -72,15 +69,12 @@ pub fn set_row(row: u64, a: f64, b: f64, c: f64, d: f64, rows: &mut [f64], set: 
 pub fn move_position(rows: &[f64], set: &[u8], x: f64, y: f64, z: f64, out: &mut [f64]) -> u64
     ensures { specs.Applies (specs.handed_by rows.now set.now) (record { x = x; y = y; z = z }) out.old result out.new }
 {
-    let first = slot(rows, set, 0);
-    let second = slot(rows, set, 1);
-    let third = slot(rows, set, 2);
-    let handed = whole(Rows {
-        first,
-        second,
-        third,
-    });
-    let Handed::Whole(matrix) = handed else {
+    let collected = Rows {
+        first: slot(rows, set, 0),
+        second: slot(rows, set, 1),
+        third: slot(rows, set, 2),
+    };
+    let Some(matrix) = whole(collected) else {
         return 14 * 281474976710656;
     };
     if out.len() < 3 {
