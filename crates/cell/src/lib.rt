@@ -9,7 +9,6 @@ ghost use Rattle.page.specs.Numerals.{decimal, signed_decimal};
 ghost use Rattle.page.specs.Page.{page};
 
 pub mod places;
-mod power;
 pub mod text;
 pub mod words;
 

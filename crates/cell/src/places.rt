@@ -3,8 +3,6 @@ ghost use Rattle.std.specs.Prelude.{◌≡◌, ◌*◌, ◌^◌, ◌≤◌, ◌<
 ghost use Rattle.std.specs.Float.Ieee.Nearest.{closest};
 ghost use Rattle.cell.specs.Places as specs;
 
-use crate::power::raised;
-
 // The digits of a decimal and its sign. More than ten digits fit no column, and a NaN or an infinity has none.
 #[derive(Clone, Copy)]
 pub struct Rounded {
@@ -12,6 +10,7 @@ pub struct Rounded {
     pub digits: u64,
 }
 
+#[tactic(auto, unfolding(crate::specs::Places::within))]
 fn within(minus: bool, n: u64) -> Option<Rounded>
     ensures { result ≡ specs.within minus n }
 {
@@ -79,12 +78,13 @@ fn round_few(x: f64, places: usize) -> Option<Rounded>
     scaled(
         minus,
         0x10_0000_0000_0000 + digits,
-        raised(5, places),
+        5u64.pow(places as u32),
         least - field,
     )
 }
 
 // x in so many places.
+#[tactic(auto, unfolding(crate::specs::Places::places_of))]
 pub fn round_to(x: f64, places: usize) -> Option<Rounded>
     ensures { result ≡ specs.places_of places x }
 {

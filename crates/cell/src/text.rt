@@ -4,17 +4,14 @@ ghost use Rattle.cell.specs.Text as specs;
 ghost use Rattle.page.specs.Page.{page, put};
 
 use crate::places::Rounded;
-use crate::power::raised;
 use page::{put_byte, put_bytes, put_unsigned};
 
 pub fn put_blanks(out: &mut [u8], at: usize, n: usize) -> usize
     ensures { page out.new result ≡ put (page out.old at) (specs.blanks n) }
 {
     let mut next = at;
-    let mut left = n;
-    while 0 < left {
+    for i in 0..n {
         next = put_byte(out, next, 32);
-        left -= 1;
     }
     next
 }
@@ -36,16 +33,12 @@ fn put_last(out: &mut [u8], at: usize, k: usize, n: u64) -> usize
     ensures { page out.new result ≡ put (page out.old at) (specs.last_digits k n []) }
 {
     let mut bytes = [0u8; 9];
-    let mut i = 9;
-    let mut left = k;
     let mut rest = n;
-    while 0 < left {
-        left -= 1;
-        i -= 1;
+    for i in (9 - k..9).rev() {
         bytes[i] = 48 + (rest % 10) as u8;
         rest /= 10;
     }
-    put_bytes(out, at, &bytes[i..])
+    put_bytes(out, at, &bytes[9 - k..])
 }
 
 // N over 10^q, without a point if q is 0.
@@ -56,7 +49,7 @@ fn put_pointed(out: &mut [u8], at: usize, q: usize, n: u64) -> usize
     if q == 0 {
         return put_unsigned(out, at, n);
     }
-    let point = put_unsigned(out, at, n / raised(10, q));
+    let point = put_unsigned(out, at, n / 10u64.pow(q as u32));
     let last = put_byte(out, point, 46);
     put_last(out, last, q, n)
 }

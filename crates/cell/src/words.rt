@@ -13,18 +13,7 @@ use page::{put_byte, put_bytes, put_signed};
 fn is_printable(bytes: &[u8]) -> bool
     ensures { result ≡ words.printable bytes.now }
 {
-    let mut i = 0;
-    while i < bytes.len() {
-        let b = bytes[i];
-        if b < 32 {
-            return false;
-        }
-        if 126 < b {
-            return false;
-        }
-        i += 1;
-    }
-    true
+    bytes.iter().all(|b| 32 <= *b && *b <= 126)
 }
 
 // A text at the left of its columns. One that is too long for them goes as it is.

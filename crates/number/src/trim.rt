@@ -3,6 +3,7 @@ ghost use Rattle.std.specs.Prelude.{◌≡◌, not, position};
 ghost use Rattle.number.specs.Trim.{white, leading, kept, trimmed, end_trimmed, span_of};
 
 // Whether trim leaves the byte.
+#[tactic(auto, unfolding(crate::specs::Trim::white))]
 fn stays(b: u8) -> bool
     ensures { result ≡ not (white b) }
 {

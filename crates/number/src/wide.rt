@@ -15,6 +15,7 @@ pub struct Wide {
     pub exponent: u64,
 }
 
+#[tactic(auto, unfolding(crate::specs::Wide::mark))]
 fn is_mark(b: u8) -> bool
     ensures { result ≡ specs.mark b }
 {

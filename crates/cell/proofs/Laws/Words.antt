@@ -1,5 +1,4 @@
 -- How a text, a charge, a flag and a row are put, by the code's tests.
---     printable-low, -high, -next, -done     a text's bytes, one by one
 --     left-full                              a text that fills its columns
 --     words_long, -odd, -left, -right        what a put of a text answers
 --     lent_other, lent_odd, lent-whole       what a put of a text that is to fill its columns answers
@@ -27,24 +26,6 @@ use Rattle.cell.specs.Cell.{fitting, texted, Puts}
 use Rattle.cell.specs.Text.{blanks, right}
 use Rattle.cell.specs.Words.{printable, left, words_fit, words_bytes, lent_fits, lent_bytes, charge_text, row_fits_of, row_bytes}
 use Rattle.cell.specs.declared.Put.{Put}
-
--- ---- a loop's turn
-module _ (t : List ℕ) (i : ℕ) (v : printable (drop i t) ≡ printable t) where
-  pub printable-low : i < length t → get_or t i 0 < 32 → false ≡ printable t
-  unfolding printable
-  printable-low l h = rw (drop-cons t i 0 l, lt-leb 32 (get_or t i 0) h) at v
-
-  pub printable-high : i < length t → 32 ≤ get_or t i 0 → 126 < get_or t i 0 → false ≡ printable t
-  unfolding printable
-  printable-high l h k = rw (drop-cons t i 0 l, le-leb 32 (get_or t i 0) h, lt-leb (get_or t i 0) 126 k) at v
-
-  pub printable-next : i < length t → 32 ≤ get_or t i 0 → get_or t i 0 ≤ 126 → printable (drop (i + 1) t) ≡ printable t
-  unfolding printable
-  printable-next l h k = rw (add-one i) (rw (drop-cons t i 0 l, le-leb 32 (get_or t i 0) h, le-leb (get_or t i 0) 126 k) at v)
-
-  pub printable-done : length t ≤ i → true ≡ printable t
-  unfolding printable
-  printable-done h = rw (drop_of_length-le t h) at v
 
 -- ---- a text at its side
 pub left-full : (w : ℕ) (t : List ℕ) → w ≤ length t → left w t ≡ t

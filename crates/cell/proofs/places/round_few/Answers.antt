@@ -24,13 +24,16 @@ returns-then-least-field c = bits_large c.args.places c.args.x (fitting _ c.well
 pub returns-then-field-least : goal.returns-then-field-least
 returns-then-field-least c = bits_small c.args.places c.args.x (fitting _ c.well_formed.0.1) c.requires c.if-field-least.true
 
+pub pow-requires : goal.pow-requires
+pow-requires c = omega (arith, five_small c.args.places c.requires)
+
 pub scaled-requires : goal.scaled-requires
 scaled-requires c =
     let q = c.args.places in
-    let f : c.raised.result < 2 ^ 21 = rw c.raised.ensures (five_small q c.requires) in
+    let f : c.pow.result < 2 ^ 21 = rw c.pow.ensures (five_small q c.requires) in
     record { digits_bound = omega arith; power_bound = f; le_shift = omega arith; shift_bound = omega arith }
 
 pub returns : goal.returns
 returns c =
     c.scaled.ensures
-    ∙ rw c.raised.ensures (bits_middle c.args.places c.args.x (fitting _ c.well_formed.0.1) c.requires c.if-least-field.false c.if-field-least.false)
+    ∙ rw c.pow.ensures (bits_middle c.args.places c.args.x (fitting _ c.well_formed.0.1) c.requires c.if-least-field.false c.if-field-least.false)
