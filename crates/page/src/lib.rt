@@ -11,12 +11,13 @@ ghost use Rattle.std.specs.Float.Ieee.{to_bits};
 ghost use Rattle.page.specs.Numerals as numerals;
 ghost use Rattle.page.specs.Page.{page, put};
 
-// One byte: stored where the lent bytes reach, and else only counted.
+// One byte: stored where the lent bytes reach, and else only counted. On the bytes the count can't stop, and isn't tested for it.
 pub fn put_byte(out: &mut [u8], at: usize, b: u8) -> usize
     ensures { page out.new result ≡ put (page out.old at) (b ∷ []) }
 {
     if at < out.len() {
         out[at] = b;
+        return at + 1;
     }
     at.saturating_add(1)
 }

@@ -5,7 +5,7 @@
 --     put-length                a page keeps its length
 --     put-fits, put_front       what fits replaces as many bytes, and the others stay
 --     put_over                  what doesn't fit is cut off at the end of the bytes
---     put_past                  one byte past the end
+--     put_on, put_past          one byte, by the code's test
 --     put_step, -next, -done    a loop's turn, and its end
 -- Assumes nothing.
 use Prim.Native.Nat.{ℕ, suc, ◌+◌, ◌-◌, ◌^◌, ◌≤◌, ◌<◌, min}
@@ -100,8 +100,12 @@ module _ (bytes t : List ℕ) (at most : ℕ) (short : length bytes < 2 ^ 64) (w
           let l = ltb-false _ _ h in
           ap (λ (s : List ℕ). (put (page bytes at) s).bytes) (sym (take_all most t (omega arith))) ∙ front-fits
 
--- ---- one byte past the end
+-- ---- one byte, by the code's test
 module _ (bytes : List ℕ) (at b : ℕ) where
+  pub put_on : at + 1 < 2 ^ 64 → page (set bytes at b) (at + 1) ≡ put (page bytes at) (b ∷ [])
+  unfolding put put_byte
+  put_on h = ap (page (set bytes at b)) (omega arith)
+
   pub put_past : (r : ℕ) → length bytes ≤ at → r ≡ min (at + 1) (2 ^ 64 - 1) → page bytes r ≡ put (page bytes at) (b ∷ [])
   unfolding put put_byte
   put_past r h e = rw (set_out bytes at b h) (ap (page bytes) e)
