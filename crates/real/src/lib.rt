@@ -21,12 +21,24 @@ pub struct Real {
     pub places: u8,
 }
 
+// 10^p as a whole number: one, p times multiplied by ten.
+fn ten_to(p: usize) -> u64
+    requires { p ≤ 11 }
+    ensures { result ≡ 10 ^ p }
+{
+    let mut n = 1;
+    for _ in 0..p {
+        n *= 10;
+    }
+    n
+}
+
 // 10^p as a double.
 pub(crate) fn converted(p: usize) -> f64
     requires { p ≤ 11 }
     ensures { result ≡ of_int binary64 (pos (10 ^ p)) }
 {
-    (10u64.pow(p as u32) as i64) as f64
+    (ten_to(p) as i64) as f64
 }
 
 // The same. Most reals have three places or two: where the number is known beforehand, the compiler multiplies it out.
