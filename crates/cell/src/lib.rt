@@ -15,7 +15,7 @@ pub mod words;
 use crate::places::{Rounded, round_to};
 use crate::text::{put_blanks, put_fixed, put_right};
 
-// The place behind what was put, and whether it fits.
+// The place behind what was put, and whether it fits. The place is there in both cases, so the two are no Option.
 #[derive(Clone, Copy)]
 pub struct Put {
     pub next: usize,

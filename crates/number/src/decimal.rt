@@ -7,6 +7,7 @@ use crate::trim::trim;
 use crate::whole::{after_sign, begins, read_run};
 
 // A written number: whether it has a minus, M, and p.
+// The bounds of M and p are no ghost fields: `plain_of` speaks of texts of any length, whose numbers have none.
 #[derive(Clone, Copy)]
 pub struct Decimal {
     pub minus: bool,

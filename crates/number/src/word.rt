@@ -4,7 +4,7 @@
 ghost use Rattle.std.specs.Prelude.{◌≡◌, [], ◌∷◌, ◌*◌, ◌<◌, ◌^◌};
 ghost use Rattle.number.specs.Word as specs;
 
-// What is read of a word that is written otherwise.
+// What is read of a word that is written otherwise. It is a number and no `None`: a flag beside it is stored and loaded for each real.
 pub const NONE: u64 = 0xffff_ffff_ffff_ffff;
 
 // The bit of a minus in what is read.
@@ -82,7 +82,7 @@ pub fn read_word(word: u64) -> u64
     value
 }
 
-// Eight columns.
+// Eight columns. The readers of four to eight columns stay apart: each has its own order of bytes, and shares with the others one test alone.
 pub fn eight(text: &[u8]) -> u64
     ensures { result ≡ specs.eight_of text.now }
 {
