@@ -2,10 +2,8 @@
 -- one that has nothing to change either.
 --     with_exponents    an input with the option on or off
 --     idle             no exponent stands in a real field of the line
-use Rattle.std.specs.Prelude.{ℕ, Bool, true, false, ◌&&◌, List, [], ◌∷◌}
+use Rattle.std.specs.Prelude.{ℕ, Bool, true, false, ◌&&◌, List, [], ◌∷◌, Option, is_none}
 use Rattle.number.specs.Wide.{marked_of}
-use Rattle.number.specs.declared.wide.Wide.{Wide}
-use Rattle.number.specs.declared.wide.Wide.TheVariants.{W, NotW}
 use Rattle.line.specs.Columns.{part_of}
 use Rattle.field.specs.Table.{Entry}
 use Rattle.field.specs.Table.Entry.{u, i, r, t, c, c?, a, u-rest, x, t_within, t-rest, t-end, charge, known, given, unwritten, triples}
@@ -27,14 +25,10 @@ with_exponents on input = record {
 }
 
 -- no exponent stands in a real's columns
-abbrev pub none : Wide → Bool
-none (W s m p lower e) = false
-none NotW = true
-
 abbrev pub unmarked_in : List ℕ → Entry → Bool
 unmarked_in l (u at) = true
 unmarked_in l (i at) = true
-unmarked_in l (r at default) = none (marked_of (part_of l at))
+unmarked_in l (r at default) = is_none (marked_of (part_of l at))
 unmarked_in l (t at) = true
 unmarked_in l (c at) = true
 unmarked_in l (c? at) = true

@@ -4,15 +4,14 @@
 -- where their integer has no fault, but for the sign of a written `-0`, which gives positive zero." And 2026-02: "how many digits stood after the
 -- point, 0 to 9, and 0 for a default .. The count is the definition's p, with trailing zeros included." ANISOU's six are integers and have none.
 -- And 2026-10: "With the option on, the texts that are read count in demand 3 with the plain decimals, over 2^126 in place of 2^82, M kept below 10^10."
-use Rattle.std.specs.Prelude.{ℕ, suc, ◌-◌, ◌≡◌, Bool, false, cond, ◌&&◌, eqb, nat_abs, Float}
+use Rattle.std.specs.Prelude.{ℕ, suc, ◌-◌, ◌≡◌, Bool, false, cond, ◌&&◌, eqb, nat_abs, Float, ℤ, Option, Some, None}
 use mathlib.Core.List.{List, [], ◌∷◌, Memᴰ}
 use Rattle.number.specs.Whole.{signed_of}
 use Rattle.real.specs.Sign.{below}
 use Rattle.real.specs.Wide.{said_with, scale_with, NearWritten}
-use Rattle.number.specs.declared.whole.Signed.{Signed}
-use Rattle.number.specs.declared.whole.Signed.TheVariants.{I, NotI}
+use Rattle.number.specs.Decimal.{plain}
+use Rattle.number.specs.Wide.{wide}
 use Rattle.number.specs.declared.wide.Wide.{Wide}
-use Rattle.number.specs.declared.wide.Wide.TheVariants.{W, NotW}
 use Rattle.line.specs.Columns.{part_of}
 use Rattle.line.specs.declared.columns.Columns.{Columns}
 use Rattle.line.specs.declared.fault.Fault.{Fault}
@@ -37,20 +36,20 @@ named_by at (f ∷ fs) = cond (names at f) (suc (named_by at fs)) (named_by at f
 
 -- ---- the written number: its sign, M, p, whether the exponent is below zero, and its size x. A plain decimal has the exponent 0
 -- an integer in ten-thousandths; a written `-0` is the integer 0, which has no minus
-abbrev pub in_ten_thousandths : Signed → Wide
-in_ten_thousandths (I z) = W (below z) (nat_abs z) 4 false 0
-in_ten_thousandths NotI = NotW
+abbrev pub in_ten_thousandths : Option ℤ → Option Wide
+in_ten_thousandths (Some z) = Some (wide (plain (below z) (nat_abs z) 4) false 0)
+in_ten_thousandths None = None
 
 -- how many digits stood after its point
-abbrev pub places_said : Wide → ℕ
-places_said (W s m p lower x) = p
-places_said NotW = 0
+abbrev pub places_said : Option Wide → ℕ
+places_said (Some w) = w.decimal.places
+places_said None = 0
 
 -- ---- the real fields of an accepted line
 pub record RealField : Type 0 where
   pub columns : Columns
   -- what is written there, if the line reaches them, and the power of 2 that V is over
-  pub written : Wide
+  pub written : Option Wide
   pub scale : ℕ
   -- what the record shows, and what it shows where no number is written
   pub double : Float
@@ -72,6 +71,6 @@ pub data RealIn (i : Input) (x : LexItem) : RealField → Type 0 where
       → RealIn i x (record { columns = at; written = in_ten_thousandths (signed_of (part_of i.line at)); scale = 82; double = y; default = zero_real })
 
 -- ---- the promise, by what is written and by how many faults name the columns
-abbrev pub Kept : Wide → ℕ → RealField → Type 0
-Kept (W s m p lower x) named f = (named ≡ 0) × NearWritten f.scale s m p lower x f.double
-Kept NotW named f = (named ≡ 1) × (f.double ≡ f.default)
+abbrev pub Kept : Option Wide → ℕ → RealField → Type 0
+Kept (Some w) named f = (named ≡ 0) × NearWritten f.scale w.decimal.minus w.decimal.digits w.decimal.places w.lower w.exponent f.double
+Kept None named f = (named ≡ 1) × (f.double ≡ f.default)

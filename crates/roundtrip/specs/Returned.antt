@@ -8,7 +8,7 @@
 --     Few, cells_held        the reals were read from fields of so few places, and come back themselves
 --     Signs                 the reals come back with their signs
 --     Lent                  the name that is lent again is the one in the line
-use Rattle.std.specs.Prelude.{ℕ, ◌≤◌, ◌<◌, ◌^◌, ◌≡◌, ◌⊎◌, Bool, true, false, List, [], ◌∷◌, ◌++◌, length, ℤ, nat_abs, Float}
+use Rattle.std.specs.Prelude.{ℕ, ◌≤◌, ◌<◌, ◌^◌, ◌≡◌, ◌⊎◌, Bool, true, false, List, [], ◌∷◌, ◌++◌, length, ℤ, nat_abs, Float, Option, Some, None}
 use Rattle.std.specs.Float.{nan, inf, fin}
 use Rattle.line.specs.Text.{view_of}
 use Rattle.line.specs.declared.text.Field.TheVariants as field
@@ -23,8 +23,7 @@ use Rattle.row.specs.declared.Row.{Row}
 use Rattle.row.specs.declared.Value.{Value}
 use Rattle.row.specs.declared.Value.TheVariants as value
 use Rattle.cell.specs.Places.{places_of}
-use Rattle.cell.specs.declared.places.Places.{Places}
-use Rattle.cell.specs.declared.places.Places.TheVariants.{Rounded, NoFit}
+use Rattle.cell.specs.declared.places.Rounded.{Rounded}
 use Rattle.sheet.specs.Ink.{Ink}
 use Rattle.sheet.specs.Sheet.{Cell, ◌holds◌, Sheet, cell_fits}
 use Rattle.sheet.specs.declared.Figure.{Figure}
@@ -95,13 +94,13 @@ rows_shown l (r ∷ rest) = value_shown l r.1 ∷ rows_shown l rest
 
 -- ---- what is to come back
 -- the double of the decimal that is written, and the same of one of ANISOU's six
-abbrev pub double_back : ℕ → Places → Float
-double_back q (Rounded s n) = double_of s n q
-double_back q NoFit = zero_real
+abbrev pub double_back : ℕ → Option Rounded → Float
+double_back q (Some r) = double_of r.minus r.digits q
+double_back q None = zero_real
 
-abbrev pub factor_back : Places → Float
-factor_back (Rounded s n) = ten_thousandth (with_sign s n)
-factor_back NoFit = zero_real
+abbrev pub factor_back : Option Rounded → Float
+factor_back (Some r) = ten_thousandth (with_sign r.minus r.digits)
+factor_back None = zero_real
 
 -- what a cell's ink shows, its reals by what becomes of them; a row is part of the kind, and no field
 abbrev pub figure_by : (ℕ → Float → Float) → (Float → Float) → Figure → List Shown

@@ -10,15 +10,14 @@ use mathlib.Core.Path.{◌≡◌, refl, ◌∙◌}
 use mathlib.Core.Bool.{Bool, true, false, ◌&&◌}
 use mathlib.Core.List.{List, [], ◌∷◌}
 use lib.Ieee.{binary64, div, neg, of_int, of_bits, round}
+use Rattle.std.specs.Prelude.{Some}
 use Rattle.number.specs.Trim.{white, leading, kept, end_trimmed, trimmed, span_of}
 use Rattle.number.specs.Whole.{digit, digits, value_from, begins, after_plus, after_sign, digits_of, unsigned_of, signed_digits, signed_of}
-use Rattle.number.specs.Decimal.{before_point, behind_point, without_point, plain_of, decimal_of}
-use Rattle.number.specs.Wide.{mark, mark_at, marked_parts, marked_in, marked_of, wide_of}
-use Rattle.number.specs.declared.wide.Wide.TheVariants.{W}
+use Rattle.number.specs.Decimal.{plain as number, before_point, behind_point, without_point, plain_of, decimal_of}
+use Rattle.number.specs.Wide.{wide, mark, mark_at, marked_parts, marked_in, marked_of, wide_of}
 use Rattle.real.specs.Double.{double_of}
-use Rattle.real.specs.Real.{real_of, ten_thousandth, ten_thousandths_of}
+use Rattle.real.specs.Real.{real, real_of, ten_thousandth, ten_thousandths_of}
 use Rattle.real.specs.Wide.{nearest_to, real_with}
-use Rattle.real.specs.declared.Real.TheVariants.{R}
 use Rattle.real.proofs.Laws.WideReal.{wide-zero}
 use Rattle.line.specs.Columns.{part_of, reached_of, rest_of}
 use Rattle.line.specs.Faults.{no_faults, noted, listed}
@@ -228,12 +227,12 @@ exponents-found =
     & ((_, refl, refl) & refl & tt)
     & tt
 
-pub zero_far : real_with true (bytes "0e99999999") ≡ R (of_bits binary64 0) 0
+pub zero_far : real_with true (bytes "0e99999999") ≡ Some (real (of_bits binary64 0) 0)
 unfolding real_with
 zero_far = rw says (wide-zero false 0 0 false 99999999 refl) ∙ same
   where
-    says : wide_of (bytes "0e99999999") ≡ W false 0 0 false 99999999
+    says : wide_of (bytes "0e99999999") ≡ Some (wide (number false 0 0) false 99999999)
     says = unfold opened in refl
 
-    same : R (nearest_to false 0 0 0) 0 ≡ R (of_bits binary64 0) 0
+    same : Some (real (nearest_to false 0 0 0) 0) ≡ Some (real (of_bits binary64 0) 0)
     same = unfold opened in refl

@@ -5,14 +5,13 @@ use Prim.Native.Nat.{ℕ}
 use mathlib.Core.Path.{◌≡◌, refl, sym, ◌∙◌}
 use mathlib.Core.Bool.{Bool, true, false}
 use mathlib.Core.List.{List, [], ◌∷◌}
+use Rattle.std.specs.Prelude.{Option, Some, None, is_none}
 use Rattle.number.specs.Wide.{marked_of}
 use Rattle.number.specs.declared.wide.Wide.{Wide}
-use Rattle.number.specs.declared.wide.Wide.TheVariants.{W, NotW}
 use Rattle.number.proofs.Laws.Choice.{and_left, and_right}
 use Rattle.real.specs.Real.{real_of}
 use Rattle.real.specs.Wide.{wide_real, real_with}
 use Rattle.real.specs.declared.Real.{Real}
-use Rattle.real.specs.declared.Real.TheVariants.{R, NotR}
 use Rattle.real.proofs.Laws.WideReal.{off-is, on-is, marked-is}
 use Rattle.line.specs.Columns.{part_of}
 use Rattle.line.specs.Given.{Given}
@@ -26,20 +25,20 @@ use Rattle.lexitem.specs.Describe.{item_of, fields_by, faults_of}
 use Rattle.lexer.specs.Refusals.{Input}
 use Rattle.lexer.specs.Refusals as refusals
 use Rattle.lexer.specs.Lexed.{lexed}
-use Rattle.promises.specs.Idle.{with_exponents, none, unmarked_in, unmarked, idle}
+use Rattle.promises.specs.Idle.{with_exponents, unmarked_in, unmarked, idle}
 
 -- ---- so its text says the same
-said-idle : (text : List ℕ) → none (marked_of text) ≡ true → (on : Bool) → real_with on text ≡ real_with false text
+said-idle : (text : List ℕ) → is_none (marked_of text) ≡ true → (on : Bool) → real_with on text ≡ real_with false text
 said-idle text e false = refl
 said-idle text e true = go (real_of text) refl
   where
-    nothing : (w : Wide) → none w ≡ true → wide_real w ≡ NotR
-    nothing (W s m p lower y) e = cc
-    nothing NotW e = refl
+    nothing : (w : Option Wide) → is_none w ≡ true → wide_real w ≡ None
+    nothing (Some w) e = cc
+    nothing None e = refl
 
-    go : (said : Real) → real_of text ≡ said → real_with true text ≡ real_with false text
-    go (R value places) is = on-is text is true ∙ sym (off-is text ∙ is)
-    go NotR is = marked-is text is ∙ nothing (marked_of text) e ∙ sym (off-is text ∙ is)
+    go : (read : Option Real) → real_of text ≡ read → real_with true text ≡ real_with false text
+    go (Some said) is = on-is text is true ∙ sym (off-is text ∙ is)
+    go None is = marked-is text is ∙ nothing (marked_of text) e ∙ sym (off-is text ∙ is)
 
 module _ (l : List ℕ) (on : Bool) where
   -- a field has the same value

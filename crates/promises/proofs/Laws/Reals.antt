@@ -17,28 +17,28 @@ use native.Mathlib.Omega.{arith}
 use borrow.Author.Tests.{leb-true}
 use lib.Dec.{T, ltb}
 use lib.ListN.{length}
+use lib.IntN.{nat_abs}
 use lib.Ieee.{Float, binary64, to_bits, of_bits}
 use lib.Ieee.Scale.{finite}
 use lib.Ieee.Bits.{of_bits-to_bits}
+use Rattle.std.specs.Prelude.{ℤ, Option, Some, None, option_map, is_some, unwrap_or}
 use Rattle.number.specs.Whole.{signed_of}
-use Rattle.number.specs.Decimal.{decimal_of}
-use Rattle.number.specs.Wide.{without_mark}
+use Rattle.number.specs.Decimal.{plain, decimal_of}
+use Rattle.number.specs.Wide.{wide, without_mark}
 use Rattle.real.specs.Near.{Near}
-use Rattle.real.specs.Real.{ten_thousandths_of}
+use Rattle.real.specs.Real.{real, ten_thousandths_of}
+use Rattle.real.specs.Sign.{below}
+use Rattle.real.specs.declared.Real.{Real as RealRead}
 use Rattle.real.specs.Wide.{raised, lowered, real_with, said_with}
 use Rattle.real.proofs.Laws.Tells.{wide-tells, near_finite}
 use Rattle.real.proofs.Laws.WideReal.{with-said, with_not, said-finer, over_plain}
-use Rattle.number.specs.declared.whole.Signed.{Signed}
-use Rattle.number.specs.declared.whole.Signed.TheVariants.{I, NotI}
 use Rattle.number.specs.declared.decimal.Decimal.{Decimal}
-use Rattle.number.specs.declared.decimal.Decimal.TheVariants.{Plain, NotPlain}
 use Rattle.number.specs.declared.wide.Wide.{Wide}
-use Rattle.number.specs.declared.wide.Wide.TheVariants.{W, NotW}
 use Rattle.line.specs.Columns.{part_of}
 use Rattle.line.specs.declared.columns.Columns.{Columns}
 use Rattle.line.specs.declared.fault.Fault.{Fault}
 use Rattle.line.specs.declared.fault.Sort.TheVariants.{Signed as ISort, Real as RSort}
-use Rattle.field.specs.Number.{is_r, places_in, real_at, places_at, factor_at}
+use Rattle.field.specs.Number.{zero_real, real_at, places_at, factor_at}
 use Rattle.field.specs.Table.{Entry, table_faults}
 use Rattle.field.specs.Table.Entry.{r, a}
 use Rattle.field.proofs.Laws.Fields.{part-short, real-none, factor-none}
@@ -60,16 +60,32 @@ use Rattle.promises.proofs.Laws.Fields.{row-shown}
 use Rattle.promises.proofs.Laws.RealsField.{decimal-reads, factor-reads, part-width, number-named, Looks, kept, Told, told}
 
 -- with the option off the exponent is 0
-plain-said : (t : List ℕ) {s : Bool} {m p : ℕ} {lower : Bool} {x : ℕ} → said_with false t ≡ W s m p lower x → (x ≡ 0) × (lower ≡ false)
+plain-said : (t : List ℕ) {s : Bool} {m p : ℕ} {lower : Bool} {x : ℕ} → said_with false t ≡ Some (wide (plain s m p) lower x) → (x ≡ 0) × (lower ≡ false)
 plain-said t {s} {m} {p} {lower} {x} e = go (decimal_of t) e
   where
-    go : (d : Decimal) → without_mark d NotW ≡ W s m p lower x → (x ≡ 0) × (lower ≡ false)
-    go NotPlain e = absurd (let z : ◌≡◌ {A = ℕ} 0 1 = cc in omega arith)
-    go (Plain minus n q) e = (cc, cc)
+    go : (d : Option Decimal) → without_mark d None ≡ Some (wide (plain s m p) lower x) → (x ≡ 0) × (lower ≡ false)
+    go None e = absurd (let z : ◌≡◌ {A = ℕ} 0 1 = cc in omega arith)
+    go (Some n) e =
+        let same : wide n false 0 ≡ wide (plain s m p) lower x = cc in
+        (sym (ap (λ (w : Wide). w.exponent) same), sym (ap (λ (w : Wide). w.lower) same))
 
-integer-said : (z : Signed) {s : Bool} {m p : ℕ} {lower : Bool} {x : ℕ} → in_ten_thousandths z ≡ W s m p lower x → (x ≡ 0) × (lower ≡ false)
-integer-said NotI e = absurd (let z : ◌≡◌ {A = ℕ} 0 1 = cc in omega arith)
-integer-said (I z) e = (cc, cc)
+integer-said : (z : Option ℤ) {s : Bool} {m p : ℕ} {lower : Bool} {x : ℕ} → in_ten_thousandths z ≡ Some (wide (plain s m p) lower x) → (x ≡ 0) × (lower ≡ false)
+integer-said None e = absurd (let z : ◌≡◌ {A = ℕ} 0 1 = cc in omega arith)
+integer-said (Some z) {s} {m} {p} {lower} {x} e =
+    let same : wide (plain (below z) (nat_abs z) 4) false 0 ≡ wide (plain s m p) lower x = cc in
+    (sym (ap (λ (w : Wide). w.exponent) same), sym (ap (λ (w : Wide). w.lower) same))
+
+-- a double alone, and its places
+value-of : {default : Float} (r : Option RealRead) → (unwrap_or r (real default 0)).value ≡ unwrap_or (option_map (λ r. r.value) r) default
+value-of (Some r) = refl
+value-of None = refl
+
+some-value : (r : Option RealRead) → is_some r ≡ is_some (option_map (λ r. r.value) r)
+some-value (Some r) = refl
+some-value None = refl
+
+abbrev places_in : Option RealRead → ℕ
+places_in r = (unwrap_or r (real zero_real 0)).places
 
 module _ (i : Input) (item : LexItem) (yes : (lexed i).outcome ≡ Accepted item) where
   abbrev faults : List Fault
@@ -101,16 +117,17 @@ module _ (i : Input) (item : LexItem) (yes : (lexed i).outcome ≡ Accepted item
       let (only, bounded) = real-chosen (table_in i) table-passes at default m in
       let part = part_of i.line at in
       record {
-        text = real_with (on_in i) part;
+        text = option_map (λ r. r.value) (real_with (on_in i) part);
         short = ltb (length i.line) at.end;
-        none = λ short. rw (part-short i.line at short) (real-none (on_in i));
+        none = λ short. rw (part-short i.line at short, real-none (on_in i)) refl;
         reads = decimal-reads (on_in i) part;
-        value = (real-row at default y n m k).0;
+        value = (real-row at default y n m k).0 ∙ value-of (real_with (on_in i) part);
         named-is =
             rw line-faults
             (chosen-named at (given i) (table_in i)
             ∙ ap (λ (es : List Entry). named_by at (table_faults (given i) es)) only
-            ∙ number-named i.line at RSort (is_r (real_with (on_in i) part)));
+            ∙ number-named i.line at RSort (is_some (real_with (on_in i) part))
+            ∙ rw (some-value (real_with (on_in i) part)) refl);
         finite_is = bounded;
         finer = said-finer (on_in i);
       }
@@ -127,7 +144,7 @@ module _ (i : Input) (item : LexItem) (yes : (lexed i).outcome ≡ Accepted item
             rw line-faults
             (chosen-named at (given i) (table_in i)
             ∙ ap (λ (es : List Entry). named_by at (table_faults (given i) es)) only
-            ∙ number-named i.line at ISort (is_r (ten_thousandths_of part)));
+            ∙ number-named i.line at ISort (is_some (ten_thousandths_of part)));
         finite_is = refl;
         finer = said-finer false;
       }
@@ -136,23 +153,23 @@ module _ (i : Input) (item : LexItem) (yes : (lexed i).outcome ≡ Accepted item
     pub demand_3 : Kept f.written (named_by f.columns faults) f
     demand_3 = kept f (named_by f.columns faults) (looks of)
 
-    line-told : (s : Bool) (m p : ℕ) (lower : Bool) (x : ℕ) → f.written ≡ W s m p lower x → Told f.scale s m p lower x f.double
+    line-told : (s : Bool) (m p : ℕ) (lower : Bool) (x : ℕ) → f.written ≡ Some (wide (plain s m p) lower x) → Told f.scale s m p lower x f.double
     line-told = told f (named_by f.columns faults) (looks of)
 
-    pub unfaulted_written : named_by f.columns faults ≡ 0 → f.written ≢ NotW
+    pub unfaulted_written : named_by f.columns faults ≡ 0 → f.written ≢ None
     unfaulted_written free none =
-        let lacks : Kept NotW (named_by f.columns faults) f = rw none at demand_3 in
+        let lacks : Kept None (named_by f.columns faults) f = rw none at demand_3 in
         let one = lacks.0 in omega (arith, one, free)
 
     pub real_finite : T (finite f.double)
     real_finite = go f.written refl
       where
-        go : (w : Wide) → f.written ≡ w → T (finite f.double)
-        go (W s m p lower x) e = near_finite (line-told s m p lower x e).near
-        go NotW e = let lacks : Kept NotW (named_by f.columns faults) f = rw e at demand_3 in rw (lacks.1, (looks of).finite_is) tt
+        go : (w : Option Wide) → f.written ≡ w → T (finite f.double)
+        go (Some w) e = near_finite (line-told w.decimal.minus w.decimal.digits w.decimal.places w.lower w.exponent e).near
+        go None e = let lacks : Kept None (named_by f.columns faults) f = rw e at demand_3 in rw (lacks.1, (looks of).finite_is) tt
 
   -- with the option off the exponent is 0, and the double is as near as 01 asks
-  pub plain-near : on_in i ≡ false → {f : RealField} → RealIn i item f → (s : Bool) (m p : ℕ) (lower : Bool) (x : ℕ) → f.written ≡ W s m p lower x
+  pub plain-near : on_in i ≡ false → {f : RealField} → RealIn i item f → (s : Bool) (m p : ℕ) (lower : Bool) (x : ℕ) → f.written ≡ Some (wide (plain s m p) lower x)
       → (x ≡ 0) × Near s m p f.double
   plain-near off (RealIn.decimal at default y n k l) s m p lower x e =
       let d = line-told _ (RealIn.decimal at default y n k l) s m p lower x e in
@@ -165,27 +182,27 @@ module _ (i : Input) (item : LexItem) (yes : (lexed i).outcome ≡ Accepted item
 
   -- ---- the counts
   module _ (at : Columns) (default y : Float) (n : ℕ) (m : Memᴰ (r at default) (table_in i)) (k : Memᴰ (at.start is Real y n) (fields_of item)) where
-    abbrev said : Wide
+    abbrev said : Option Wide
     said = said_with (on_in i) (part_of i.line at)
 
     pub counts-kept : n ≡ places_said said
     unfolding places_at
     counts-kept = (real-row at default y n m k).1 ∙ go said refl
       where
-        go : (w : Wide) → said ≡ w → places_in (real_with (on_in i) (part_of i.line at)) ≡ places_said w
-        go (W s m p lower x) e = ap places_in (with-said (on_in i) (part_of i.line at) e).is
-        go NotW e = ap places_in (with_not (on_in i) (part_of i.line at) e)
+        go : (w : Option Wide) → said ≡ w → places_in (real_with (on_in i) (part_of i.line at)) ≡ places_said w
+        go (Some w) e = ap places_in (with-said (on_in i) (part_of i.line at) e).is
+        go None e = ap places_in (with_not (on_in i) (part_of i.line at) e)
 
     pub counts-few : n ≤ 9
     counts-few = rw counts-kept (go said refl)
       where
-        go : (w : Wide) → said ≡ w → places_said w ≤ 9
-        go (W s m p lower x) e = (with-said (on_in i) (part_of i.line at) e).short
-        go NotW e = omega arith
+        go : (w : Option Wide) → said ≡ w → places_said w ≤ 9
+        go (Some w) e = (with-said (on_in i) (part_of i.line at) e).short
+        go None e = omega arith
 
 pub demand_3_tells : (i j : Input) (one other : LexItem) → (lexed i).outcome ≡ Accepted one → (lexed j).outcome ≡ Accepted other
     → (f g : RealField) → RealIn i one f → RealIn j other g
-    → (s t : Bool) (m n p q : ℕ) (lower less : Bool) (x y : ℕ) → f.written ≡ W s m p lower x → g.written ≡ W t n q less y
+    → (s t : Bool) (m n p q : ℕ) (lower less : Bool) (x y : ℕ) → f.written ≡ Some (wide (plain s m p) lower x) → g.written ≡ Some (wide (plain t n q) less y)
     → to_bits binary64 f.double ≡ to_bits binary64 g.double
     → (s ≡ t) × (m * 10 ^ raised lower x p * 10 ^ lowered less y q ≡ n * 10 ^ raised less y q * 10 ^ lowered lower x p)
 demand_3_tells i j one other accepts acceptsToo f g of ofToo s t m n p q lower less x y v w same =

@@ -16,16 +16,14 @@ use lib.IntN.{ℤ, pos}
 use lib.Ieee.{Float, binary64, fits, of_int}
 use lib.Ieee.Fits.{div-fits}
 use lib.Ieee.Scale.{finite}
+use Rattle.std.specs.Prelude.{Option, Some, None, option_map, is_some, unwrap_or}
+use Rattle.number.specs.Decimal.{plain}
+use Rattle.number.specs.Wide.{wide}
 use Rattle.number.specs.Whole.{signed_of}
 use Rattle.real.specs.Near.{NearOver}
-use Rattle.real.specs.Real.{ten_thousandths_from, ten_thousandths_of, ten_thousandth}
+use Rattle.real.specs.Real.{ten_thousandths_of, ten_thousandth}
 use Rattle.real.specs.Wide.{raised, lowered, real_with, said_with, scale_with}
-use Rattle.number.specs.declared.whole.Signed.{Signed}
-use Rattle.number.specs.declared.whole.Signed.TheVariants.{I, NotI}
 use Rattle.number.specs.declared.wide.Wide.{Wide}
-use Rattle.number.specs.declared.wide.Wide.TheVariants.{W, NotW}
-use Rattle.real.specs.declared.Real.{Real}
-use Rattle.real.specs.declared.Real.TheVariants.{R, NotR}
 use Rattle.real.proofs.Laws.Real.{ten_thousandths_near}
 use Rattle.real.proofs.Laws.WideReal.{with-said, with_not, plain_over, near-written}
 use Rattle.number.proofs.Laws.Width.{signed-within}
@@ -33,7 +31,7 @@ use Rattle.line.specs.Columns.{part_of}
 use Rattle.line.specs.declared.columns.Columns.{Columns}
 use Rattle.line.specs.declared.fault.FaultKind.TheVariants.{Short, Wrong}
 use Rattle.line.specs.declared.fault.Sort.{Sort}
-use Rattle.field.specs.Number.{number_faults, fault_at, is_r, or_r}
+use Rattle.field.specs.Number.{number_faults, fault_at}
 use Rattle.promises.specs.Reals.{RealField, named_by, in_ten_thousandths, Kept}
 use Rattle.promises.proofs.Laws.RealsNamed.{none_named, own-named}
 
@@ -58,30 +56,32 @@ pub record Told (scale : ℕ) (s : Bool) (m p : ℕ) (lower : Bool) (x : ℕ) (y
   pub few : m < 10 ^ 10
 
 -- what is read of what is written
-abbrev pub Reads : ℕ → Wide → Real → Type 0
-Reads scale (W s m p lower x) text = (y : Float) × (n : ℕ) × (text ≡ R y n) × Told scale s m p lower x y
-Reads scale NotW text = text ≡ NotR
+abbrev pub Reads : ℕ → Option Wide → Option Float → Type 0
+Reads scale (Some w) text =
+    (y : Float) × (text ≡ Some y) × Told scale w.decimal.minus w.decimal.digits w.decimal.places w.lower w.exponent y
+Reads scale None text = text ≡ None
 
-pub decimal-reads : (on : Bool) (t : List ℕ) → Reads (scale_with on) (said_with on t) (real_with on t)
+pub decimal-reads : (on : Bool) (t : List ℕ) → Reads (scale_with on) (said_with on t) (option_map (λ r. r.value) (real_with on t))
 decimal-reads on t = go (said_with on t) refl
   where
-    go : (w : Wide) → said_with on t ≡ w → Reads (scale_with on) w (real_with on t)
-    go (W s m p lower x) e = let d = with-said on t e in (d.double, p, d.is, record { near = d.near; held = d.held; few = d.few })
-    go NotW e = with_not on t e
+    go : (w : Option Wide) → said_with on t ≡ w → Reads (scale_with on) w (option_map (λ r. r.value) (real_with on t))
+    go (Some w) e =
+        let d = with-said on t e in (d.double, ap (option_map (λ r. r.value)) d.is, record { near = d.near; held = d.held; few = d.few })
+    go None e = ap (option_map (λ r. r.value)) (with_not on t e)
 
 pub factor-reads : (t : List ℕ) → length t ≤ 7 → Reads 82 (in_ten_thousandths (signed_of t)) (ten_thousandths_of t)
 unfolding ten_thousandths_of
 factor-reads t seven = go (signed_of t) refl
   where
-    none : (b : Bool) → cond b (ten_thousandths_from NotI) NotR ≡ NotR
+    none : (b : Bool) → cond {A = Option Float} b None None ≡ None
     none true = refl
     none false = refl
 
-    go : (z : Signed) → signed_of t ≡ z → Reads 82 (in_ten_thousandths z) (ten_thousandths_of t)
-    go (I z) said =
+    go : (z : Option ℤ) → signed_of t ≡ z → Reads 82 (in_ten_thousandths z) (ten_thousandths_of t)
+    go (Some z) said =
         let (is, near) = ten_thousandths_near t said seven in
-        (ten_thousandth z, 0, is, record { near = plain_over near; held = tenth-held z; few = signed-within t said 10 (omega arith) })
-    go NotI said = rw said (none (leb (length t) 7))
+        (ten_thousandth z, is, record { near = plain_over near; held = tenth-held z; few = signed-within t said 10 (omega arith) })
+    go None said = rw said (none (leb (length t) 7))
 
 -- ---- a number's entry gives one fault, which names its columns, where the line doesn't reach or the text says no number; else it gives none
 pub number-named : (l : List ℕ) (at : Columns) (sort : Sort) (fine : Bool)
@@ -98,12 +98,12 @@ number-named l at sort fine = go (ltb (length l) at.end) fine
 -- ---- a field, with how many faults name its columns
 pub record Looks (f : RealField) (named : ℕ) : Type 0 where
   -- what its text is read as, and whether the line ends before it
-  pub text : Real
+  pub text : Option Float
   pub short : Bool
-  pub none : short ≡ true → text ≡ NotR
+  pub none : short ≡ true → text ≡ None
   pub reads : Reads f.scale f.written text
-  pub value : f.double ≡ or_r f.default text
-  pub named-is : named ≡ cond short 1 (cond (is_r text) 0 1)
+  pub value : f.double ≡ unwrap_or text f.default
+  pub named-is : named ≡ cond short 1 (cond (is_some text) 0 1)
   pub finite_is : finite f.default ≡ true
   -- a double over 2 ^ scale is one over 2 ^ 126
   pub finer : {s : Bool} {n b : ℕ} {y : Float} → NearOver f.scale s n b y → NearOver 126 s n b y
@@ -116,18 +116,18 @@ module _ (f : RealField) (named : ℕ) (look : Looks f named) where
       unread true = refl
       unread false = refl
 
-      read : (short : Bool) (y : Float) (n : ℕ) → (short ≡ true → look.text ≡ NotR) → look.text ≡ R y n → cond {A = ℕ} short 1 0 ≡ 0
-      read false y n none is = refl
-      read true y n none is = absurd (let clash = none refl in let z : ◌≡◌ {A = ℕ} 0 1 = cc in omega arith)
+      read : (short : Bool) (y : Float) → (short ≡ true → look.text ≡ None) → look.text ≡ Some y → cond {A = ℕ} short 1 0 ≡ 0
+      read false y none is = refl
+      read true y none is = absurd (let clash = none refl in let z : ◌≡◌ {A = ℕ} 0 1 = cc in omega arith)
 
-      go : (w : Wide) → Reads f.scale w look.text → Kept w named f
-      go (W s m p lower x) (y, n, is, d) =
-          let same : y ≡ f.double = sym (look.value ∙ ap (or_r f.default) is) in
-          (look.named-is ∙ rw is (read look.short y n look.none is), near-written f.scale (rw same at d.near))
-      go NotW is = (look.named-is ∙ rw is (unread look.short), look.value ∙ ap (or_r f.default) is)
+      go : (w : Option Wide) → Reads f.scale w look.text → Kept w named f
+      go (Some w) (y, is, d) =
+          let same : y ≡ f.double = sym (look.value ∙ ap (λ (t : Option Float). unwrap_or t f.default) is) in
+          (look.named-is ∙ rw is (read look.short y look.none is), near-written f.scale (rw same at d.near))
+      go None is = (look.named-is ∙ rw is (unread look.short), look.value ∙ ap (λ (t : Option Float). unwrap_or t f.default) is)
 
-  pub told : (s : Bool) (m p : ℕ) (lower : Bool) (x : ℕ) → f.written ≡ W s m p lower x → Told f.scale s m p lower x f.double
+  pub told : (s : Bool) (m p : ℕ) (lower : Bool) (x : ℕ) → f.written ≡ Some (wide (plain s m p) lower x) → Told f.scale s m p lower x f.double
   told s m p lower x e =
-      let reads : Reads f.scale (W s m p lower x) look.text = rw e at look.reads in
-      let same : reads.0 ≡ f.double = sym (look.value ∙ ap (or_r f.default) reads.2) in
-      rw same at reads.3
+      let reads : Reads f.scale (Some (wide (plain s m p) lower x)) look.text = rw e at look.reads in
+      let same : reads.0 ≡ f.double = sym (look.value ∙ ap (λ (t : Option Float). unwrap_or t f.default) reads.1) in
+      rw same at reads.2

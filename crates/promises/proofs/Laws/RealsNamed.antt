@@ -21,7 +21,8 @@ use Rattle.line.specs.declared.fault.FaultKind.{FaultKind}
 use Rattle.line.specs.declared.fault.FaultKind.TheVariants.{Short, NoDigit, NoSign, Unknown}
 use Rattle.line.specs.declared.fault.Sort.{Sort}
 use Rattle.line.specs.declared.fault.Sort.TheVariants.{Unsigned as USort, Signed as ISort, Real as RSort}
-use Rattle.field.specs.Number.{number_faults, unsigned_from_faults, unsigned_at, is_u, is_i, is_r, fault_at, short_at, wrong_at, rest_columns}
+use Rattle.std.specs.Prelude.{is_some}
+use Rattle.field.specs.Number.{number_faults, unsigned_from_faults, unsigned_at, fault_at, short_at, wrong_at, rest_columns}
 use Rattle.field.specs.Text.{text_faults, character_faults}
 use Rattle.field.specs.Charge.{charged, is_sign, charge_faults, charge_faults_of}
 use Rattle.field.specs.Remark.{is_known, known_faults}
@@ -117,15 +118,15 @@ module _ (at : Columns) where
 
   entry_clear : (g : Given) (entry : Entry) → may at entry ≡ false → named_by at (faults_by g entry) ≡ 0
   unfolding text_faults unsigned_from_faults known_faults
-  entry_clear g (u columns) e = number-clear g.line columns USort (is_u (unsigned_of (part_of g.line columns))) e
-  entry_clear g (i columns) e = number-clear g.line columns ISort (is_i (signed_of (part_of g.line columns))) e
-  entry_clear g (r columns default) e = number-clear g.line columns RSort (is_r (real_with g.options.exponents (part_of g.line columns))) e
+  entry_clear g (u columns) e = number-clear g.line columns USort (is_some (unsigned_of (part_of g.line columns))) e
+  entry_clear g (i columns) e = number-clear g.line columns ISort (is_some (signed_of (part_of g.line columns))) e
+  entry_clear g (r columns default) e = number-clear g.line columns RSort (is_some (real_with g.options.exponents (part_of g.line columns))) e
   entry_clear g (t columns) e = either-clear (ltb (length g.line) columns.end) (short_at columns) [] e none_named
   entry_clear g (c columns) e = character_clear g.line columns.start e
   entry_clear g (c? columns) e = character_clear g.line columns.start e
-  entry_clear g (a columns) e = number-clear g.line columns ISort (is_r (ten_thousandths_of (part_of g.line columns))) e
+  entry_clear g (a columns) e = number-clear g.line columns ISort (is_some (ten_thousandths_of (part_of g.line columns))) e
   entry_clear g (u-rest start) e =
-      unless-clear (is_u (unsigned_of (rest_of g.line start))) (wrong_at USort (rest_columns g.line start)) (rw e refl)
+      unless-clear (is_some (unsigned_of (rest_of g.line start))) (wrong_at USort (rest_columns g.line start)) (rw e refl)
   entry_clear g (x columns) e = none_named
   entry_clear g (t_within columns) e = none_named
   entry_clear g (t-rest start) e = none_named

@@ -16,6 +16,7 @@ use lib.IntN.{ℤ, pos, negsuc, nat_abs}
 use lib.Pow.{pow-add, pow_pos}
 use lib.Ieee.{Float}
 use lib.Ieee.Nearest.{closest}
+use Rattle.std.specs.Prelude.{Option, Some, None}
 use Rattle.number.specs.Whole.{with_sign}
 use Rattle.real.specs.Double.{double_of}
 use Rattle.real.specs.Near.{Near, apart}
@@ -29,9 +30,8 @@ use Rattle.kind.specs.declared.Kind.{Kind}
 use Rattle.lexitem.specs.Describe.{item_of, fields_of}
 use Rattle.lexer.specs.Refusals.{Input, given}
 use Rattle.cell.specs.Cell.{real_fits}
-use Rattle.cell.specs.Places.{within, rounded_to, places_of}
-use Rattle.cell.specs.declared.places.Places.{Places}
-use Rattle.cell.specs.declared.places.Places.TheVariants.{Rounded, NoFit}
+use Rattle.cell.specs.Places.{rounded, within, rounded_to, places_of}
+use Rattle.cell.specs.declared.places.Rounded.{Rounded}
 use Rattle.cell.proofs.Laws.Back.{factor-back}
 use Rattle.cell.proofs.Laws.Places.{placed, places_are, places-value, written_back, written_same}
 use Rattle.sheet.specs.Ink.{Ink, ink_fits, figure_fits}
@@ -66,11 +66,11 @@ large v n t c T big near half =
 split_power : (p q : ℕ) → p ≤ q → 10 ^ p * 10 ^ (q - p) ≡ 10 ^ q
 split_power p q h = rw (← pow-add 10 p (q - p), add-sub_of_le h) refl
 
-no_room : (s t : Bool) (c n : ℕ) → 10 ^ 10 ≤ c → within s c ≡ Rounded t n → ⊥
+no_room : (s t : Bool) (c n : ℕ) → 10 ^ 10 ≤ c → within s c ≡ Some (rounded t n) → ⊥
 unfolding within
-no_room s t c n h e = let none : NoFit ≡ Rounded t n = rw (le-ltb c (10 ^ 10) h) at e in let z : ◌≡◌ {A = ℕ} 0 1 = cc in omega arith
+no_room s t c n h e = let none : None ≡ Some (rounded t n) = rw (le-ltb c (10 ^ 10) h) at e in let z : ◌≡◌ {A = ℕ} 0 1 = cc in omega arith
 
-near-small : (s t : Bool) (m p q n : ℕ) (x : Float) → Near s m p x → p ≤ q → rounded_to q x ≡ Rounded t n → 10 ^ 10 ≤ m * 10 ^ (q - p) → ⊥
+near-small : (s t : Bool) (m p q n : ℕ) (x : Float) → Near s m p x → p ≤ q → rounded_to q x ≡ Some (rounded t n) → 10 ^ 10 ≤ m * 10 ^ (q - p) → ⊥
 near-small s t m p q n x near h e big =
     let k = 10 ^ (q - p) in
     let d = 2 ^ 82 in
@@ -83,32 +83,32 @@ near-small s t m p q n x near h e big =
 
 -- ---- a real
 module _ (q : ℕ) (x : Float) (from : From q x) where
-  real-is : (s : Bool) (n : ℕ) → places_of q x ≡ Rounded s n → double_of s n q ≡ x
+  real-is : (s : Bool) (n : ℕ) → places_of q x ≡ Some (rounded s n) → double_of s n q ≡ x
   real-is s n e =
-      let (long, rounded) = placed q x s n e in go long (rw from.is at rounded)
+      let (long, rounds) = placed q x s n e in go long (rw from.is at rounds)
     where
-      go : q ≤ 9 → rounded_to q (double_of from.minus from.digits from.places) ≡ Rounded s n → double_of s n q ≡ x
-      go long rounded = by_size (ltb (from.digits * 10 ^ (q - from.places)) (10 ^ 10)) refl
+      go : q ≤ 9 → rounded_to q (double_of from.minus from.digits from.places) ≡ Some (rounded s n) → double_of s n q ≡ x
+      go long rounds = by_size (ltb (from.digits * 10 ^ (q - from.places)) (10 ^ 10)) refl
         where
           by_size : (b : Bool) → ltb (from.digits * 10 ^ (q - from.places)) (10 ^ 10) ≡ b → double_of s n q ≡ x
           by_size true l =
               let fit = ltb-true (from.digits * 10 ^ (q - from.places)) (10 ^ 10) l in
               let back = written_back from.minus from.digits from.places q from.few from.less long fit in
-              let same : Rounded s n ≡ Rounded from.minus (from.digits * 10 ^ (q - from.places)) = sym rounded ∙ back in
-              let sign : s ≡ from.minus = cc in
-              let number : n ≡ from.digits * 10 ^ (q - from.places) = cc in
+              let same : rounded s n ≡ rounded from.minus (from.digits * 10 ^ (q - from.places)) = cc rounds back in
+              let sign : s ≡ from.minus = ap (λ (r : Rounded). r.minus) same in
+              let number : n ≡ from.digits * 10 ^ (q - from.places) = ap (λ (r : Rounded). r.digits) same in
               rw (sign, number) (written_same from.minus from.digits from.places q from.few from.less long fit ∙ sym from.is)
           by_size false l =
               absurd (near-small from.minus s from.digits from.places q n (double_of from.minus from.digits from.places)
-              (double-near from.minus from.digits from.places from.few (le_trans from.less long)) from.less rounded
+              (double-near from.minus from.digits from.places from.few (le_trans from.less long)) from.less rounds
               (ltb-false (from.digits * 10 ^ (q - from.places)) (10 ^ 10) l))
 
   pub real-held : (w : ℕ) → real_fits w q (places_of q x) ≡ true → double_back q (places_of q x) ≡ x
   real-held w fit = go (places_of q x) refl fit
     where
-      go : (p : Places) → places_of q x ≡ p → real_fits w q p ≡ true → double_back q p ≡ x
-      go (Rounded s n) e f = real-is s n e
-      go NoFit e f = cc
+      go : (p : Option Rounded) → places_of q x ≡ p → real_fits w q p ≡ true → double_back q p ≡ x
+      go (Some r) e f = real-is r.minus r.digits e
+      go None e f = cc
 
 -- ---- one of ANISOU's six
 sign-is : (z : ℤ) → with_sign (below z) (nat_abs z) ≡ z

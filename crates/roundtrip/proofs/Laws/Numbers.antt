@@ -13,23 +13,20 @@ use mathlib.Core.List.{List, [], ◌++◌}
 use lib.ListN.{length, drop}
 use lib.IntN.{ℤ}
 use lib.Ieee.{Float}
+use Rattle.std.specs.Prelude.{Option, Some, None}
 use Rattle.page.specs.Numerals.{decimal, signed_decimal}
 use Rattle.line.specs.Columns.{part_of, rest_of}
 use Rattle.line.specs.declared.columns.Columns.{Columns}
 use Rattle.number.specs.Trim.{trimmed}
 use Rattle.number.specs.Whole.{unsigned_of, signed_of, with_sign}
-use Rattle.number.specs.declared.whole.Unsigned.TheVariants.{U}
-use Rattle.number.specs.declared.whole.Signed.TheVariants.{I}
-use Rattle.real.specs.Real.{real_of, ten_thousandths_of}
+use Rattle.real.specs.Real.{real as readReal, real_of, ten_thousandths_of}
 use Rattle.real.specs.Wide.{real_with}
 use Rattle.real.proofs.Laws.WideReal.{on-is}
-use Rattle.real.specs.declared.Real.TheVariants.{R}
 use Rattle.field.specs.Number.{unsigned_at, unsigned_faults, signed_at, signed_faults, real_at, real_faults, places_at, factor_at, factor_faults, unsigned_from, unsigned_from_faults, number_faults}
 use Rattle.cell.specs.Cell.{fitting, texted, real_fits, real_bytes, factor_fits, factor_bytes}
 use Rattle.cell.specs.Places.{places_of}
 use Rattle.cell.specs.Text.{blanks}
-use Rattle.cell.specs.declared.places.Places.{Places}
-use Rattle.cell.specs.declared.places.Places.TheVariants.{Rounded, NoFit}
+use Rattle.cell.specs.declared.places.Rounded.{Rounded}
 use Rattle.cell.proofs.Laws.Back.{unsigned_back, signed_back}
 use Rattle.cell.proofs.Laws.Cell.{cell-again}
 use Rattle.cell.proofs.Laws.Text.{blanks-out}
@@ -42,41 +39,41 @@ use Rattle.roundtrip.proofs.Laws.Trimmed.{tail-out}
 use Rattle.roundtrip.proofs.Laws.Small.{decimal-small, signed-small}
 
 -- ---- what is written says the number
-unsigned-said : (w n : ℕ) → fitting w (decimal n) ≡ true → w ≤ 18 → unsigned_of (texted w (decimal n)) ≡ U n
+unsigned-said : (w n : ℕ) → fitting w (decimal n) ≡ true → w ≤ 18 → unsigned_of (texted w (decimal n)) ≡ Some n
 unfolding texted
 unsigned-said w n e few = let small = decimal-small w n e few in rw e (unsigned_back w n (omega arith))
 
-signed-said : (w : ℕ) (z : ℤ) → fitting w (signed_decimal z) ≡ true → w ≤ 18 → signed_of (texted w (signed_decimal z)) ≡ I z
+signed-said : (w : ℕ) (z : ℤ) → fitting w (signed_decimal z) ≡ true → w ≤ 18 → signed_of (texted w (signed_decimal z)) ≡ Some z
 unfolding texted
 signed-said w z e few = rw e (signed_back w z (signed-small w z e few))
 
 real-said : (w q : ℕ) (x : Float) → real_fits w q (places_of q x) ≡ true → w ≤ 10
-    → real_of (real_bytes w q (places_of q x)) ≡ R (double_back q (places_of q x)) q
+    → real_of (real_bytes w q (places_of q x)) ≡ Some (readReal (double_back q (places_of q x)) q)
 real-said w q x e few = go (places_of q x) refl e
   where
-    go : (p : Places) → places_of q x ≡ p → real_fits w q p ≡ true → real_of (real_bytes w q (places_of q x)) ≡ R (double_back q (places_of q x)) q
-    go (Rounded s n) is e = rw is (rw is at (cell-again q w x s n is e few).0)
-    go NoFit is e = cc
+    go : (p : Option Rounded) → places_of q x ≡ p → real_fits w q p ≡ true → real_of (real_bytes w q (places_of q x)) ≡ Some (readReal (double_back q (places_of q x)) q)
+    go (Some r) is e = rw is (rw is at (cell-again q w x r.minus r.digits is e few).0)
+    go None is e = cc
 
-factor-said : (w : ℕ) (p : Places) → factor_fits w p ≡ true → w ≤ 7 → ten_thousandths_of (factor_bytes w p) ≡ R (factor_back p) 0
+factor-said : (w : ℕ) (p : Option Rounded) → factor_fits w p ≡ true → w ≤ 7 → ten_thousandths_of (factor_bytes w p) ≡ Some (factor_back p)
 unfolding ten_thousandths_of
-factor-said w (Rounded s n) e few =
-    let long = factor-width w (Rounded s n) in
-    rw (le-leb (length (factor_bytes w (Rounded s n))) 7 (omega arith), signed-said w (with_sign s n) e (omega arith)) refl
-factor-said w NoFit e few = cc
+factor-said w (Some r) e few =
+    let long = factor-width w (Some r) in
+    rw (le-leb (length (factor_bytes w (Some r))) 7 (omega arith), signed-said w (with_sign r.minus r.digits) e (omega arith)) refl
+factor-said w None e few = cc
 
 -- ---- in its columns
 module _ {l : List ℕ} {at : Columns} where
   pub unsigned_in : {n : ℕ} → Held l (at holds unsigned n) → at.end - at.start ≤ 18 → (unsigned_at l at ≡ n) × (unsigned_faults l at ≡ [])
   unfolding unsigned_at number_faults
   unsigned_in {n} h few =
-      let said : unsigned_of (part_of l at) ≡ U n = ap unsigned_of h.part ∙ unsigned-said (at.end - at.start) n h.fits few in
+      let said : unsigned_of (part_of l at) ≡ Some n = ap unsigned_of h.part ∙ unsigned-said (at.end - at.start) n h.fits few in
       (rw said refl, rw (le-ltb (length l) at.end h.reach, said) refl)
 
   pub signed_in_lem : {z : ℤ} → Held l (at holds signed z) → at.end - at.start ≤ 18 → (signed_at l at ≡ z) × (signed_faults l at ≡ [])
   unfolding signed_at number_faults
   signed_in_lem {z} h few =
-      let said : signed_of (part_of l at) ≡ I z = ap signed_of h.part ∙ signed-said (at.end - at.start) z h.fits few in
+      let said : signed_of (part_of l at) ≡ Some z = ap signed_of h.part ∙ signed-said (at.end - at.start) z h.fits few in
       (rw said refl, rw (le-ltb (length l) at.end h.reach, said) refl)
 
   -- a written real is a plain decimal, so it is the same with exponents and without
@@ -84,16 +81,16 @@ module _ {l : List ℕ} {at : Columns} where
       → (real_at on l at default ≡ double_back q (places_of q x)) × (real_faults on l at ≡ []) × (places_at on l at ≡ q)
   unfolding real_at places_at number_faults
   real_in on {q} {x} default h few =
-      let plain : real_of (part_of l at) ≡ R (double_back q (places_of q x)) q =
+      let plain : real_of (part_of l at) ≡ Some (readReal (double_back q (places_of q x)) q) =
       ap real_of h.part ∙ real-said (at.end - at.start) q x h.fits few in
-      let said : real_with on (part_of l at) ≡ R (double_back q (places_of q x)) q = on-is (part_of l at) plain on in
+      let said : real_with on (part_of l at) ≡ Some (readReal (double_back q (places_of q x)) q) = on-is (part_of l at) plain on in
       (rw said refl, rw (le-ltb (length l) at.end h.reach, said) refl, rw said refl)
 
   pub factor_in : {x : Float} → Held l (at holds factor x) → at.end - at.start ≤ 7
       → (factor_at l at ≡ factor_back (places_of 4 x)) × (factor_faults l at ≡ [])
   unfolding factor_at number_faults
   factor_in {x} h few =
-      let said : ten_thousandths_of (part_of l at) ≡ R (factor_back (places_of 4 x)) 0 =
+      let said : ten_thousandths_of (part_of l at) ≡ Some (factor_back (places_of 4 x)) =
       ap ten_thousandths_of h.part ∙ factor-said (at.end - at.start) (places_of 4 x) h.fits few in
       (rw said refl, rw (le-ltb (length l) at.end h.reach, said) refl)
 

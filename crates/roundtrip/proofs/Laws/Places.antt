@@ -12,6 +12,7 @@ use mathlib.Core.List.{List, [], ◌∷◌, Memᴰ}
 use lib.ListN.{length}
 use lib.Dec.{ltb, lit≤}
 use lib.Ieee.{Float}
+use Rattle.std.specs.Prelude.{Option, Some, None, unwrap_or}
 use Rattle.line.specs.Columns.{part_of}
 use Rattle.line.specs.Given.{Given}
 use Rattle.line.specs.declared.options.Mode.{Mode}
@@ -20,16 +21,14 @@ use Rattle.model.specs.Model.{model_table}
 use Rattle.line.specs.declared.columns.Columns.{Columns}
 use Rattle.line.specs.declared.fault.Sort.{Sort}
 use Rattle.line.specs.declared.fault.Sort.TheVariants.{Real as RSort}
-use Rattle.number.specs.Decimal.{decimal_of}
+use Rattle.number.specs.Decimal.{plain, decimal_of}
 use Rattle.number.specs.declared.decimal.Decimal.{Decimal}
-use Rattle.number.specs.declared.decimal.Decimal.TheVariants.{Plain, NotPlain}
 use Rattle.number.proofs.Laws.Width.{decimal_limits}
 use Rattle.real.specs.Double.{double_of}
 use Rattle.real.specs.Wide.{real_with}
-use Rattle.real.specs.declared.Real.TheVariants.{R}
 use Rattle.real.proofs.Laws.Real.{real-is, real_not}
 use Rattle.real.proofs.Laws.WideReal.{off-is, on-is}
-use Rattle.field.specs.Number.{real_at, places_at, real_faults, number_faults, short_at, wrong_at, or_r, places_in}
+use Rattle.field.specs.Number.{real_at, places_at, real_faults, number_faults, short_at, wrong_at, zero_real}
 use Rattle.field.specs.Table.{Entry}
 use Rattle.atom.specs.Atom.{basics_table, atom_table}
 use Rattle.crystal.specs.Crystal.{z_entry, has_z}
@@ -39,6 +38,8 @@ use Rattle.kind.specs.declared.Kind.TheVariants as kinds
 use Rattle.layout.specs.Each.{each}
 use Rattle.layout.specs.Places.{row_places, places_of}
 use Rattle.lexitem.specs.Describe.{item_of, fields_of, fields_by}
+use Rattle.real.specs.Real.{real as readReal}
+use Rattle.real.specs.declared.Real.{Real as RealRead}
 use Rattle.cell.specs.Cell.{real_fits, real_bytes}
 use Rattle.cell.specs.Places.{places_of as inPlaces}
 use Rattle.cell.specs.Text.{fixed}
@@ -63,21 +64,21 @@ faulted l at sort e = go (ltb (length l) at.end) e
     go false e = let z : ◌≡◌ {A = ℕ} 0 1 = cc in omega arith
 
 -- so a real that has no fault with the option off is a plain decimal
-plain_of : (l : List ℕ) (at : Columns) → real_faults false l at ≡ [] → (s : Bool) × (m : ℕ) × (p : ℕ) × (decimal_of (part_of l at) ≡ Plain s m p)
+plain_of : (l : List ℕ) (at : Columns) → real_faults false l at ≡ [] → (s : Bool) × (m : ℕ) × (p : ℕ) × (decimal_of (part_of l at) ≡ Some (plain s m p))
 plain_of l at none = go (decimal_of (part_of l at)) refl
   where
-    go : (d : Decimal) → decimal_of (part_of l at) ≡ d → (s : Bool) × (m : ℕ) × (p : ℕ) × (decimal_of (part_of l at) ≡ Plain s m p)
-    go (Plain s m p) e = (s, m, p, e)
-    go NotPlain e = absurd (faulted l at RSort (rw (off-is (part_of l at), (real_not (part_of l at)).0 e) at none))
+    go : (d : Option Decimal) → decimal_of (part_of l at) ≡ d → (s : Bool) × (m : ℕ) × (p : ℕ) × (decimal_of (part_of l at) ≡ Some (plain s m p))
+    go (Some d) e = (d.minus, d.digits, d.places, e)
+    go None e = absurd (faulted l at RSort (rw (off-is (part_of l at), (real_not (part_of l at)).0 e) at none))
 
 -- no number of more than ten bytes is read, hence the bound
 module _ (on : Bool) (old new : List ℕ) (at : Columns) (default : Float)
     (h : Held new (at holds real (places_at on old at) (real_at on old at default))) (few : at.end - at.start ≤ 10) where
-  plain-is : (l : List ℕ) {s : Bool} {m p : ℕ} → decimal_of (part_of l at) ≡ Plain s m p → real_with on (part_of l at) ≡ R (double_of s m p) p
+  plain-is : (l : List ℕ) {s : Bool} {m p : ℕ} → decimal_of (part_of l at) ≡ Some (plain s m p) → real_with on (part_of l at) ≡ Some (readReal (double_of s m p) p)
   plain-is l e = on-is (part_of l at) (real-is (part_of l at) e) on
 
-  own-said : (s : Bool) (m p : ℕ) → decimal_of (part_of old at) ≡ Plain s m p
-      → (length (fixed p s m) ≤ at.end - at.start) × (decimal_of (part_of new at) ≡ Plain s m p)
+  own-said : (s : Bool) (m p : ℕ) → decimal_of (part_of old at) ≡ Some (plain s m p)
+      → (length (fixed p s m) ≤ at.end - at.start) × (decimal_of (part_of new at) ≡ Some (plain s m p))
   unfolding real_at places_at
   own-said s m p e =
       let limits = decimal_limits (part_of old at) e in
@@ -95,8 +96,8 @@ module _ (on : Bool) (old new : List ℕ) (at : Columns) (default : Float)
       let same = plain-is new said ∙ sym (plain-is old e) in
       record {
         digits = said ∙ sym e;
-        value = ap (or_r default) same;
-        places = ap places_in same;
+        value = ap (λ (r : Option RealRead). (unwrap_or r (readReal default 0)).value) same;
+        places = ap (λ (r : Option RealRead). (unwrap_or r (readReal zero_real 0)).places) same;
         clear = (real_in on default h few).1;
       }
 
@@ -206,5 +207,5 @@ module _ (k : Kind) (g : Given) (standIn name : List ℕ) (fit : Fit (as_read k 
   pub written-as_read : real_faults false g.line at ≡ [] → SaysSame g.options.exponents g.line line at default
   written-as_read none = field-same g.options.exponents g.line line at default own.0 own.1 none
 
-  pub never_rounded : (s : Bool) (m p : ℕ) → decimal_of (part_of g.line at) ≡ Plain s m p → length (fixed p s m) ≤ at.end - at.start
+  pub never_rounded : (s : Bool) (m p : ℕ) → decimal_of (part_of g.line at) ≡ Some (plain s m p) → length (fixed p s m) ≤ at.end - at.start
   never_rounded s m p e = (own-said g.options.exponents g.line line at default own.0 own.1 s m p e).0

@@ -10,17 +10,18 @@ use lib.ListN.{length}
 use lib.Dec.{leb, ltb, eqb}
 use lib.IntN.{ℤ, pos, negsuc}
 use lib.Ieee.{Float}
+use Rattle.std.specs.Prelude.{Option, Some, None}
 use Rattle.page.specs.Numerals.{decimal_before, decimal, signed_decimal}
 use Rattle.page.proofs.Laws.Lists.{Between}
 use Rattle.number.specs.Whole.{with_sign}
 use Rattle.number.proofs.Laws.Choice.{and_left, and_right}
 use Rattle.lexer.specs.Refusals.{plain}
+use Rattle.number.specs.Decimal.{plain}
 use Rattle.cell.specs.Cell.{fitting, texted, real_bytes, factor_bytes}
 use Rattle.cell.specs.Places.{places_of}
 use Rattle.cell.specs.Text.{blanks, right, fixed}
 use Rattle.cell.specs.Words.{printable, left, words_fit, words_bytes, lent_fits, lent_bytes, charge_text, flag_text, row_bytes}
-use Rattle.cell.specs.declared.places.Places.{Places}
-use Rattle.cell.specs.declared.places.Places.TheVariants.{Rounded, NoFit}
+use Rattle.cell.specs.declared.places.Rounded.{Rounded}
 use Rattle.cell.proofs.Laws.Places.{placed, places-few}
 use Rattle.cell.proofs.Laws.Text.{fixed-between}
 use Rattle.sheet.specs.Ink.{Ink, figure_bytes}
@@ -124,15 +125,17 @@ module _ (w : ℕ) (t : List ℕ) where
   unfolding lent_bytes lent_fits
   lent-low = chosen-low w t (eqb (length t) w && printable t) (λ e. printable-low t (and_right (eqb (length t) w) (printable t) e))
 
-real-low : (w q : ℕ) (x : Float) (p : Places) → places_of q x ≡ p → Low (real_bytes w q p)
-real-low w q x (Rounded s n) e =
-    let (long, rounded) = placed q x s n e in
-    texted-low w (fixed q s n) (between-low 45 57 (fixed q s n) (omega arith) (fixed-between q s n (places-few q x s n rounded)))
-real-low w q x NoFit e = blanks-low w
+real-low : (w q : ℕ) (x : Float) (p : Option Rounded) → places_of q x ≡ p → Low (real_bytes w q p)
+real-low w q x (Some r) e =
+    let t = fixed q r.minus r.digits in
+    let (long, rounds) = placed q x r.minus r.digits e in
+    texted-low w t (between-low 45 57 t (omega arith) (fixed-between q r.minus r.digits (places-few q x r.minus r.digits rounds)))
+real-low w q x None e = blanks-low w
 
-factor-low : (w : ℕ) (p : Places) → Low (factor_bytes w p)
-factor-low w (Rounded s n) = texted-low w (signed_decimal (with_sign s n)) (signed_low (with_sign s n))
-factor-low w NoFit = blanks-low w
+factor-low : (w : ℕ) (p : Option Rounded) → Low (factor_bytes w p)
+factor-low w (Some r) =
+    texted-low w (signed_decimal (with_sign r.minus r.digits)) (signed_low (with_sign r.minus r.digits))
+factor-low w None = blanks-low w
 
 row_low : (w row : ℕ) → Low (row_bytes w row)
 unfolding row_bytes

@@ -10,14 +10,14 @@ use mathlib.Core.List.{List, [], ◌∷◌}
 use lib.Dec.{lit≤}
 use lib.IntN.{ℤ, pos, negsuc, nat_abs}
 use lib.Ieee.{Float}
+use Rattle.std.specs.Prelude.{Option, Some, None}
 use Rattle.number.specs.Whole.{with_sign}
 use Rattle.real.specs.Double.{double_of}
 use Rattle.real.specs.Real.{ten_thousandth}
 use Rattle.real.specs.Sign.{below}
 use Rattle.cell.specs.Cell.{real_fits, factor_fits, factor_bytes}
-use Rattle.cell.specs.Places.{places_of}
-use Rattle.cell.specs.declared.places.Places.{Places}
-use Rattle.cell.specs.declared.places.Places.TheVariants.{Rounded, NoFit}
+use Rattle.cell.specs.Places.{rounded, places_of}
+use Rattle.cell.specs.declared.places.Rounded.{Rounded}
 use Rattle.cell.proofs.Laws.Back.{factor-back}
 use Rattle.cell.proofs.Laws.Places.{placed, places_are, places-few, places-again}
 use Rattle.sheet.specs.Ink.{Ink, figure_fits, figure_bytes, ink_fits, ink_bytes}
@@ -50,9 +50,11 @@ cells_again ((at holds ink) ∷ rest) = at holds ink_again ink ∷ cells_again r
 real-again : (w q : ℕ) (x : Float) → real_fits w q (places_of q x) ≡ true → places_of q (double_back q (places_of q x)) ≡ places_of q x
 real-again w q x fit = go (places_of q x) refl fit
   where
-    go : (p : Places) → places_of q x ≡ p → real_fits w q p ≡ true → places_of q (double_back q p) ≡ p
-    go (Rounded s n) e f = let (long, rounded) = placed q x s n e in places_are q (double_of s n q) long ∙ places-again q x s n long rounded
-    go NoFit e f = cc
+    go : (p : Option Rounded) → places_of q x ≡ p → real_fits w q p ≡ true → places_of q (double_back q p) ≡ p
+    go (Some r) e f =
+        let (long, rounds) = placed q x r.minus r.digits e in
+        places_are q (double_of r.minus r.digits q) long ∙ places-again q x r.minus r.digits long rounds
+    go None e f = cc
 
 -- of one of ANISOU's six the sign of a zero may go, which isn't written
 whole-size : (s : Bool) (n : ℕ) → nat_abs (with_sign s n) ≡ n
@@ -64,20 +66,20 @@ sign-is : (z : ℤ) → with_sign (below z) (nat_abs z) ≡ z
 sign-is (pos n) = refl
 sign-is (negsuc n) = refl
 
-abbrev Same : ℕ → Places → Places → Type 0
+abbrev Same : ℕ → Option Rounded → Option Rounded → Type 0
 Same w p r = (factor_fits w p ≡ factor_fits w r) × (factor_bytes w p ≡ factor_bytes w r)
 
 factor-again : (w : ℕ) (x : Float) → factor_fits w (places_of 4 x) ≡ true → Same w (places_of 4 (factor_back (places_of 4 x))) (places_of 4 x)
 factor-again w x fit = go (places_of 4 x) refl fit
   where
-    go : (p : Places) → places_of 4 x ≡ p → factor_fits w p ≡ true → Same w (places_of 4 (factor_back p)) p
-    go (Rounded s n) e f =
-        let z = with_sign s n in
-        let (long, rounded) = placed 4 x s n e in
-        let few : nat_abs z < 10 ^ 10 = rw (whole-size s n) (places-few 4 x s n rounded) in
-        let again : places_of 4 (ten_thousandth z) ≡ Rounded (below z) (nat_abs z) = places_are 4 (ten_thousandth z) (lit≤ tt) ∙ factor-back z few in
+    go : (p : Option Rounded) → places_of 4 x ≡ p → factor_fits w p ≡ true → Same w (places_of 4 (factor_back p)) p
+    go (Some r) e f =
+        let z = with_sign r.minus r.digits in
+        let (long, rounds) = placed 4 x r.minus r.digits e in
+        let few : nat_abs z < 10 ^ 10 = rw (whole-size r.minus r.digits) (places-few 4 x r.minus r.digits rounds) in
+        let again : places_of 4 (ten_thousandth z) ≡ Some (rounded (below z) (nat_abs z)) = places_are 4 (ten_thousandth z) (lit≤ tt) ∙ factor-back z few in
         (rw (again, sign-is z) refl, rw (again, sign-is z) refl)
-    go NoFit e f = absurd (let z : ◌≡◌ {A = ℕ} 0 1 = cc in omega arith)
+    go None e f = absurd (let z : ◌≡◌ {A = ℕ} 0 1 = cc in omega arith)
 
 figure-again : (w : ℕ) (f : Figure) → figure_fits w f ≡ true
     → (figure_fits w (figure_again f) ≡ true) × (figure_bytes w (figure_again f) ≡ figure_bytes w f)
