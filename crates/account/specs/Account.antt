@@ -1,7 +1,7 @@
 -- "One command that says, for a file, whether it was read, and where not": what is printed for a line. "Carets stand under the very columns of the fault
 -- (bytes outside 32 to 126 are shown as one mark each, so that columns stay true). Columns are counted from 1 for people. A refused line says why in a
 -- sentence, with its place." A line that was read whole has no bytes. Every row ends with LF.
-use Rattle.std.specs.Prelude.{ℕ, ◌+◌, ◌-◌, min, Bool, false, cond, ◌&&◌, ◌||◌, List, [], ◌∷◌, ◌++◌, eqb, leb, ltb, length, take, drop, replicate}
+use Rattle.std.specs.Prelude.{ℕ, ◌+◌, ◌-◌, min, Bool, false, cond, ◌&&◌, ◌||◌, List, [], ◌∷◌, ◌++◌, eqb, leb, ltb, length, take, drop, replicate, Result, Ok, Err}
 use Rattle.kind.specs.Kind.{number_of as kindNumber}
 use Rattle.kind.specs.Name.{name_of as kindName}
 use Rattle.kind.specs.declared.Kind.{Kind}
@@ -10,10 +10,9 @@ use Rattle.lexer.specs.Lexed.{lexed}
 use Rattle.lexer.specs.Refusals.{Input}
 use Rattle.lexitem.specs.Fault.{told, faults_in}
 use Rattle.lexitem.specs.declared.answer.Answer.{Answer}
-use Rattle.lexitem.specs.declared.answer.Outcome.{Outcome}
-use Rattle.lexitem.specs.declared.answer.Outcome.TheVariants.{Accepted, Refused}
 use Rattle.lexitem.specs.declared.answer.Refusal.{Refusal}
 use Rattle.lexitem.specs.declared.fault.LineFaults.{LineFaults}
+use Rattle.lexitem.specs.declared.item.LexItem.{LexItem}
 use Rattle.line.specs.Bytes.{bytes}
 use Rattle.line.specs.Columns.{◌⋯◌, reached_of}
 use Rattle.line.specs.Faults.{number_of as faultNumber}
@@ -138,9 +137,9 @@ refused_rows line l r =
     numbered (bytes "line ") line (bytes ": not read: ") ++ why r.number r.place r.length ++ around l r.number r.place
 
 -- ---- a line by its answer
-abbrev pub account_by : List ℕ → ℕ → LineFaults → Outcome → List ℕ
-account_by l line fs (Accepted item) = accepted_rows line fs.kind l (faults_in (told fs))
-account_by l line fs (Refused r) = refused_rows line l r
+abbrev pub account_by : List ℕ → ℕ → LineFaults → Result LexItem Refusal → List ℕ
+account_by l line fs (Ok item) = accepted_rows line fs.kind l (faults_in (told fs))
+account_by l line fs (Err r) = refused_rows line l r
 
 abbrev pub account_of : List ℕ → Answer → List ℕ
 account_of l a = account_by l a.line a.faults a.outcome

@@ -16,7 +16,7 @@ use page::put_bytes;
 fn put_word(out: &mut [u8], at: usize, text: &[u8]) -> usize
     ensures { page out.new result ≡ put (page out.old at) (specs.word text.now) }
 {
-    if text.len() == 0 {
+    if text.is_empty() {
         return at;
     }
     let next = put_bytes(out, at, b" ");
@@ -46,14 +46,10 @@ fn put_atom(out: &mut [u8], at: usize, line: &[u8]) -> usize
 fn put_words(out: &mut [u8], at: usize, kind: Kind, line: &[u8]) -> usize
     ensures { page out.new result ≡ put (page out.old at) (specs.words kind line.now) }
 {
-    let number = number_of(kind);
-    if number < 3 {
-        return at;
+    match number_of(kind) {
+        3..=5 => put_atom(out, at, line),
+        _ => at,
     }
-    if 5 < number {
-        return at;
-    }
-    put_atom(out, at, line)
 }
 
 // The name of a kind.

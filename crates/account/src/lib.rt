@@ -2,7 +2,7 @@
 // there; or why the line was refused.
 #![tactic(auto)]
 
-ghost use Rattle.std.specs.Prelude.{◌≡◌, ◌≤◌, min, take};
+ghost use Rattle.std.specs.Prelude.{◌≡◌};
 ghost use Rattle.lexitem.specs.Fault.{told, faults_in};
 ghost use Rattle.page.specs.Page.{page, put};
 ghost use Rattle.account.specs.Account as specs;
@@ -17,7 +17,7 @@ use crate::refused::put_refused;
 use crate::rows::{is_cut, put_rows};
 use crate::text::{put_line, put_numbered};
 use kind::Kind;
-use lexitem::answer::{Answer, Outcome};
+use lexitem::answer::Answer;
 use lexitem::fault::LineFaults;
 use line::fault::{Fault, Faults};
 use page::put_bytes;
@@ -35,71 +35,41 @@ fn put_unread(out: &mut [u8], at: usize, cut: bool, size: usize, count: usize) -
     put_numbered(out, at, b": ", count, b" fields were not read\n")
 }
 
-// The rows of a line that has the first so many of a list as its faults.
+// The rows of a line that has some faults.
 fn put_faulty(
     out: &mut [u8],
     at: usize,
     line: &[u8],
     number: usize,
     kind: Kind,
-    faults: [Fault; Faults::MOST],
-    count: usize,
+    faults: &[Fault],
 ) -> usize
-    requires { count ≤ 15 }
-    ensures { page out.new result ≡ put (page out.old at) (specs.unread_rows number kind line.now (take count faults)) }
+    ensures { page out.new result ≡ put (page out.old at) (specs.unread_rows number kind line.now faults.now) }
 {
     let why = put_head(out, at, number, kind, line);
-    let cut = is_cut(faults, count);
-    let shown = put_unread(out, why, cut, line.len(), count);
+    let cut = is_cut(faults);
+    let shown = put_unread(out, why, cut, line.len(), faults.len());
     let rows = put_line(out, shown, line);
-    put_rows(out, rows, kind, faults, count)
+    put_rows(out, rows, kind, faults)
 }
 
-// No list has more.
-fn fewest(count: usize) -> usize
-    ensures { result ≡ min count 15 }
-{
-    if count < Faults::MOST {
-        return count;
-    }
-    Faults::MOST
-}
-
-// The same, or nothing if it has none.
-fn put_counted(
-    out: &mut [u8],
-    at: usize,
-    line: &[u8],
-    number: usize,
-    kind: Kind,
-    faults: [Fault; Faults::MOST],
-    count: usize,
-) -> usize
-    ensures { page out.new result ≡ put (page out.old at) (specs.accepted_rows number kind line.now (take count faults)) }
-{
-    if count == 0 {
-        return at;
-    }
-    put_faulty(out, at, line, number, kind, faults, fewest(count))
-}
-
-// What there is to say of an accepted line.
+// What there is to say of an accepted line: nothing if it has no faults. No list has more than it has room for.
 fn put_accepted(out: &mut [u8], at: usize, line: &[u8], number: usize, faults: LineFaults) -> usize
     ensures { page out.new result ≡ put (page out.old at) (specs.accepted_rows number faults.kind line.now (faults_in (told faults))) }
 {
-    let kind = faults.kind;
-    let list = faults.list;
-    put_counted(out, at, line, number, kind, list, faults.count)
+    if faults.count == 0 {
+        return at;
+    }
+    let count = faults.count.min(Faults::MOST);
+    put_faulty(out, at, line, number, faults.kind, &faults.list[..count])
 }
 
 // What there is to say of a line, by its answer; 4,096 bytes hold it.
 pub fn put_account(out: &mut [u8], at: usize, line: &[u8], answer: Answer) -> usize
     ensures { page out.new result ≡ put (page out.old at) (specs.account_of line.now answer) }
 {
-    let faults = answer.faults;
-    let outcome = answer.outcome;
-    match outcome {
-        Outcome::Accepted(_) => put_accepted(out, at, line, answer.line, faults),
-        Outcome::Refused(refusal) => put_refused(out, at, line, answer.line, refusal),
+    match answer.outcome {
+        Ok(_) => put_accepted(out, at, line, answer.line, answer.faults),
+        Err(refusal) => put_refused(out, at, line, answer.line, refusal),
     }
 }

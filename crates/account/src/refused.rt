@@ -21,10 +21,7 @@ fn put_plural(out: &mut [u8], at: usize, n: usize) -> usize
 fn column_of(place: usize) -> usize
     ensures { result ≡ specs.column_of place }
 {
-    if place < 1024 {
-        return place + 1;
-    }
-    1025
+    place.min(1024) + 1
 }
 
 fn put_long(out: &mut [u8], at: usize, size: usize) -> usize

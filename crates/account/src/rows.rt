@@ -14,13 +14,7 @@ use page::put_bytes;
 fn carets(place: usize, size: usize) -> usize
     ensures { result ≡ min size (120 - place) }
 {
-    if 120 < place {
-        return 0;
-    }
-    if size < 120 - place {
-        return size;
-    }
-    120 - place
+    size.min(120usize.saturating_sub(place))
 }
 
 // Carets under columns.
@@ -57,45 +51,20 @@ fn put_row(out: &mut [u8], at: usize, kind: Kind, fault: Fault) -> usize
     put_said(out, said, kind, fault.place as usize)
 }
 
-// The rows of the first so many of a list.
-pub(crate) fn put_rows(
-    out: &mut [u8],
-    at: usize,
-    kind: Kind,
-    faults: [Fault; Faults::MOST],
-    count: usize,
-) -> usize
-    requires { count ≤ 15 }
-    ensures { page out.new result ≡ put (page out.old at) (specs.fault_rows kind (take count faults)) }
+// The rows of some faults.
+pub(crate) fn put_rows(out: &mut [u8], at: usize, kind: Kind, faults: &[Fault]) -> usize
+    ensures { page out.new result ≡ put (page out.old at) (specs.fault_rows kind faults.now) }
 {
     let mut next = at;
-    let mut i = 0;
-    while i < count {
-        next = put_row(out, next, kind, faults[i]);
-        i += 1;
+    for fault in faults {
+        next = put_row(out, next, kind, *fault);
     }
     next
 }
 
-// The number of a fault.
-fn number_of(fault: Fault) -> usize
-    ensures { result ≡ number_of fault.kind }
-{
-    let kind = fault.kind;
-    kind.number()
-}
-
 // Whether the line ends too early for one of them.
-pub(crate) fn is_cut(faults: [Fault; Faults::MOST], count: usize) -> bool
-    requires { count ≤ 15 }
-    ensures { result ≡ specs.is_cut (take count faults) }
+pub(crate) fn is_cut(faults: &[Fault]) -> bool
+    ensures { result ≡ specs.is_cut faults.now }
 {
-    let mut i = 0;
-    while i < count {
-        if number_of(faults[i]) == 1 {
-            return true;
-        }
-        i += 1;
-    }
-    false
+    faults.iter().any(|fault| fault.kind.number() == 1)
 }

@@ -25,13 +25,10 @@ pub(crate) fn put_numbered(
 fn mark(b: u8) -> u8
     ensures { result ≡ specs.mark b }
 {
-    if b < 32 {
-        return 63;
+    match b {
+        32..=126 => b,
+        _ => 63,
     }
-    if 126 < b {
-        return 63;
-    }
-    b
 }
 
 // A text, each byte as one.
@@ -39,10 +36,8 @@ pub(crate) fn put_marked(out: &mut [u8], at: usize, text: &[u8]) -> usize
     ensures { page out.new result ≡ put (page out.old at) (specs.marked text.now) }
 {
     let mut next = at;
-    let mut i = 0;
-    while i < text.len() {
-        next = put_byte(out, next, mark(text[i]));
-        i += 1;
+    for b in text {
+        next = put_byte(out, next, mark(*b));
     }
     next
 }
@@ -52,10 +47,8 @@ pub(crate) fn put_many(out: &mut [u8], at: usize, n: usize, b: u8) -> usize
     ensures { page out.new result ≡ put (page out.old at) (replicate n b) }
 {
     let mut next = at;
-    let mut left = n;
-    while 0 < left {
+    for _ in 0..n {
         next = put_byte(out, next, b);
-        left -= 1;
     }
     next
 }
@@ -64,10 +57,7 @@ pub(crate) fn put_many(out: &mut [u8], at: usize, n: usize, b: u8) -> usize
 fn front(text: &[u8]) -> &[u8]
     ensures { result.now ≡ take 120 text.now }
 {
-    if text.len() < 120 {
-        return text;
-    }
-    &text[..120]
+    &text[..text.len().min(120)]
 }
 
 // The end of a row that shows a text of so many bytes.

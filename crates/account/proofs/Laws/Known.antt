@@ -9,13 +9,12 @@ use native.Mathlib.Omega.{arith}
 use native.Mathlib.Nat.{pow-le-pow_right}
 use lib.Dec.{ltb, lit<}
 use lib.ListN.{length, take, drop, replicate, length-take, get_or-replicate}
-use Rattle.field.specs.Number.{or_u, unsigned_at}
+use Rattle.std.specs.Prelude.{Option, Some, None, unwrap_or}
+use Rattle.field.specs.Number.{unsigned_at}
 use Rattle.field.specs.Remark.{is_known, known_faults}
 use Rattle.line.specs.Columns.{part_of}
 use Rattle.line.specs.declared.columns.Columns.{Columns}
 use Rattle.number.specs.Whole.{unsigned_of}
-use Rattle.number.specs.declared.whole.Unsigned.{Unsigned}
-use Rattle.number.specs.declared.whole.Unsigned.TheVariants.{U, NotU}
 use Rattle.number.proofs.Laws.Width.{unsigned-below}
 
 module _ (l : List ℕ) (at : Columns) where
@@ -31,13 +30,13 @@ module _ (l : List ℕ) (at : Columns) where
   unfolding unsigned_at
   three-below h = go (unsigned_of (part_of l at)) refl
     where
-      go : (v : Unsigned) → unsigned_of (part_of l at) ≡ v → or_u v < 1000
-      go (U n) e =
+      go : (v : Option ℕ) → unsigned_of (part_of l at) ≡ v → unwrap_or v 0 < 1000
+      go (Some n) e =
           let below = unsigned-below (part_of l at) e in
           let few : length (part_of l at) ≤ 3 = omega (arith, part-most) in
           let most : 10 ^ length (part_of l at) ≤ 10 ^ 3 = pow-le-pow_right (lit< tt) few in
           omega arith
-      go NotU e = lit< tt
+      go None e = lit< tt
 
   pub known-none : at.end - at.start ≤ 3 → known_faults (replicate 1000 1) (unsigned_at l at) at ≡ []
   unfolding known_faults is_known

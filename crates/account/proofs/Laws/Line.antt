@@ -5,19 +5,19 @@
 use Prim.Native.Nat.{ℕ}
 use mathlib.Core.Path.{◌≡◌, refl, sym, ◌∙◌}
 use mathlib.Core.List.{List, [], ◌∷◌, ◌++◌, map}
+use Rattle.std.specs.Prelude.{Ok}
 use lib.ListN.{length}
 use Rattle.lexer.specs.Lexed.{lexed}
 use Rattle.lexer.specs.Refusals.{Input, kind, faults}
 use Rattle.lexer.proofs.Laws.Accepted.{accepted-answer, accepted-faults}
 use Rattle.lexitem.specs.Fault.{stamped_as}
-use Rattle.lexitem.specs.declared.answer.Outcome.TheVariants.{Accepted}
 use Rattle.lexitem.specs.declared.item.LexItem.{LexItem}
 use Rattle.line.specs.declared.fault.Fault.{Fault}
 use Rattle.account.specs.Account.{shown_line, fault_row, head, is_cut, unread, input_of, account}
 use Rattle.account.specs.Rows.{rows_of}
 use Rattle.account.proofs.Laws.Told.{told_once, quiet}
 
-module _ (number : ℕ) (l : List ℕ) (x : LexItem) (read : (lexed (input_of number l)).outcome ≡ Accepted x) where
+module _ (number : ℕ) (l : List ℕ) (x : LexItem) (read : (lexed (input_of number l)).outcome ≡ Ok x) where
   abbrev i : Input
   i = input_of number l
 

@@ -10,9 +10,10 @@ use native.Mathlib.Omega.{arith}
 use lib.Dec.{T, ltb, ltb→lt}
 use lib.Ieee.Fits.{and_l, and_r}
 use lib.ListN.{length, take, get_or}
+use Rattle.std.specs.Prelude.{is_some}
 use Rattle.crystal.specs.Crystal.{has_z, crystal_table}
 use Rattle.field.specs.Charge.{is_sign, charged, charge_faults, charge_faults_of}
-use Rattle.field.specs.Number.{is_u, fault_at, wrong_at, rest_columns, number_faults, unsigned_from_faults}
+use Rattle.field.specs.Number.{fault_at, wrong_at, rest_columns, number_faults, unsigned_from_faults}
 use Rattle.field.specs.Remark.{is_known, known_faults}
 use Rattle.field.specs.Table.{Entry, faults_by, table_faults}
 use Rattle.field.specs.Table.Entry.{u, i, r, t, c, c?, a, u-rest, x, t_within, t-rest, t-end, charge, known, given, unwritten, triples}
@@ -119,7 +120,7 @@ module _ (g : Given) where
       let first = ltb→lt start 119 (and_l (ltb start 119) (ltb start size) h) in
       let reached = ltb→lt start size (and_r (ltb start 119) (ltb start size) h) in
       let one : Seen (wrong_at Unsigned (rest_columns g.line start) ∷ []) = ((omega arith, omega arith), tt) in
-      either-seen (is_u (unsigned_of (rest_of g.line start))) [] (wrong_at Unsigned (rest_columns g.line start) ∷ []) tt one
+      either-seen (is_some (unsigned_of (rest_of g.line start))) [] (wrong_at Unsigned (rest_columns g.line start) ∷ []) tt one
 
   entry_seen : (e : Entry) → T (stands size e) → Seen (faults_by g e)
   entry_seen (u at) h = number-seen at h g.line _ _

@@ -5,6 +5,7 @@ use Prim.Native.Nat.{ℕ, ◌+◌, ◌-◌, ◌*◌, ◌≤◌, ◌<◌, min}
 use mathlib.Core.Path.{◌≡◌, refl}
 use mathlib.Core.Bool.{Bool, ◌&&◌}
 use mathlib.Core.List.{List, [], ◌∷◌, ◌++◌}
+use Rattle.std.specs.Prelude.{Result, Ok, Err}
 use native.Mathlib.Omega.{arith}
 use lib.Dec.{leb, eqb, ltb, lit≤}
 use lib.ListN.{length, take, drop, length-append, length-take, length-replicate}
@@ -15,10 +16,9 @@ use Rattle.layout.specs.Each.{each}
 use Rattle.lexer.specs.Lexed.{lexed}
 use Rattle.lexer.specs.Refusals.{kind, given, faults}
 use Rattle.lexer.proofs.Laws.Accepted.{accepted-faults}
-use Rattle.lexitem.specs.declared.answer.Outcome.{Outcome}
-use Rattle.lexitem.specs.declared.answer.Outcome.TheVariants.{Accepted, Refused}
 use Rattle.lexitem.specs.declared.answer.Refusal.{Refusal}
 use Rattle.lexitem.proofs.Laws.Few.{faults_fifteen}
+use Rattle.lexitem.specs.declared.item.LexItem.{LexItem}
 use Rattle.line.specs.Bytes.{bytes}
 use Rattle.line.specs.Columns.{reached_of}
 use Rattle.line.specs.declared.fault.Fault.{Fault}
@@ -142,9 +142,9 @@ pub account-short : (number : ℕ) (l : List ℕ) → length (account number l) 
 unfolding account
 account-short number l = go (lexed (input_of number l)).outcome refl
   where
-    go : (o : Outcome) → (lexed (input_of number l)).outcome ≡ o
+    go : (o : Result LexItem Refusal) → (lexed (input_of number l)).outcome ≡ o
         → length (account_by l (lexed (input_of number l)).line (lexed (input_of number l)).faults o) ≤ 4096
-    go (Accepted item) e =
+    go (Ok item) e =
         rw (accepted-faults (input_of number l) item e)
         (accepted-most _ _ l (faults (input_of number l)) (faults-seen number l) (faults_fifteen (kind (input_of number l)) (given (input_of number l))))
-    go (Refused r) e = refused-most _ l r
+    go (Err r) e = refused-most _ l r

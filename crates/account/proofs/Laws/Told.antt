@@ -6,6 +6,7 @@ use Prim.Native.Nat.{ℕ, suc, ◌+◌, ◌-◌, ◌/◌, ◌%◌, min}
 use mathlib.Core.Path.{◌≡◌, refl, sym, ap, ◌∙◌}
 use mathlib.Core.Bool.{Bool, true, false, cond, not, ◌&&◌}
 use mathlib.Core.List.{List, [], ◌∷◌, ◌++◌, map, append_assoc}
+use Rattle.std.specs.Prelude.{Ok}
 use native.Mathlib.Omega.{arith}
 use borrow.Author.Tests.{ne_eqb, leb-true}
 use lib.Dec.{T, eqb, leb, ltb}
@@ -17,7 +18,6 @@ use Rattle.kind.specs.declared.Kind.{Kind}
 use Rattle.layout.specs.Each.{each}
 use Rattle.lexitem.specs.Fault.{told, faults_in}
 use Rattle.lexitem.specs.declared.answer.Answer.{Answer}
-use Rattle.lexitem.specs.declared.answer.Outcome.TheVariants.{Accepted}
 use Rattle.lexitem.specs.declared.item.LexItem.{LexItem}
 use Rattle.line.specs.Bytes.{bytes}
 use Rattle.line.specs.Columns.{◌⋯◌, reached_of}
@@ -188,7 +188,7 @@ unread-rows number k l fs =
     let begun = row-after (head number k l) (unread (is_cut fs) (length l) (length fs)) (head-word number k l) (unread-row (is_cut fs) (length l) (length fs)) in
     rw (append_assoc first (shown_line l) (fault_rows k fs), row_apart first (shown_line l ++ fault_rows k fs) begun, row_apart (shown_line l) (fault_rows k fs) (shown-row l), rows-each k fs) refl
 
-module _ (l : List ℕ) (a : Answer) (x : LexItem) (read : a.outcome ≡ Accepted x) where
+module _ (l : List ℕ) (a : Answer) (x : LexItem) (read : a.outcome ≡ Ok x) where
   abbrev own : List Fault
   own = faults_in (told a.faults)
 

@@ -4,7 +4,7 @@
 --     AllShow, table-put   so it is for every entry that agrees with that table
 -- Assumes nothing.
 use Prim.Native.Nat.{ℕ, ◌+◌, ◌-◌}
-use mathlib.Core.Path.{◌≡◌, refl}
+use mathlib.Core.Path.{◌≡◌, refl, ap, ◌∙◌}
 use mathlib.Core.Bool.{Bool, true, false, cond, ◌&&◌}
 use mathlib.Core.List.{List, [], ◌∷◌}
 use borrow.Author.Tests.{eq-eqb}
@@ -13,8 +13,9 @@ use lib.Ieee.{Float}
 use lib.Ieee.Fits.{and_l, and_r}
 use lib.IntN.{pos}
 use lib.ListN.{length, get_or, replicate}
+use Rattle.std.specs.Prelude.{Option, Some, None, is_some, unwrap_or}
 use Rattle.field.specs.Charge.{is_sign, charged, charge_of, charge_at, charge_faults, charge_faults_of}
-use Rattle.field.specs.Number.{zero_real, or_u, is_u, or_i, is_i, or_r, is_r, short_at, wrong_at, rest_columns, number_faults, unsigned_at, signed_at, real_at, places_at, factor_at, unsigned_from, unsigned_from_faults}
+use Rattle.field.specs.Number.{zero_real, short_at, wrong_at, rest_columns, number_faults, unsigned_at, signed_at, real_at, places_at, factor_at, unsigned_from, unsigned_from_faults}
 use Rattle.field.specs.Table.{Entry, faults_by}
 use Rattle.field.specs.Table.Entry.{u, i, r, t, c, c?, a, u-rest, x, t_within, t-rest, t-end, charge, known, given, unwritten, triples}
 use Rattle.field.specs.Text.{text_at, character_at, optional_at, text_faults, character_faults, unreached}
@@ -33,14 +34,9 @@ use Rattle.names.specs.Names.{default_text}
 use Rattle.names.proofs.Laws.Table.{same_eq}
 use Rattle.number.specs.Trim.{leading, kept, trimmed, end_trimmed, span_of}
 use Rattle.number.specs.Whole.{digit, unsigned_of, signed_of}
-use Rattle.number.specs.declared.whole.Signed.{Signed}
-use Rattle.number.specs.declared.whole.Signed.TheVariants.{I, NotI}
-use Rattle.number.specs.declared.whole.Unsigned.{Unsigned}
-use Rattle.number.specs.declared.whole.Unsigned.TheVariants.{U, NotU}
-use Rattle.real.specs.Real.{ten_thousandths_of}
-use Rattle.real.specs.Wide.{real_with}
+use Rattle.real.specs.Real.{real, ten_thousandths_of}
 use Rattle.real.specs.declared.Real.{Real}
-use Rattle.real.specs.declared.Real.TheVariants.{R, NotR}
+use Rattle.real.specs.Wide.{real_with}
 use Rattle.row.specs.Rows.{◌is◌}
 use Rattle.row.specs.declared.Row.{Row}
 use Rattle.row.specs.declared.Value.{Value}
@@ -63,17 +59,9 @@ pub record Shows (k : Kind) (g : Given) (e : Entry) (f : Fault) : Type 0 where
   pub some : (rest : List Row) → keep holds (column is holds) rest ≡ column is holds ∷ rest
 
 -- ---- values
-not_u : (v : Unsigned) → is_u v ≡ false → or_u v ≡ 0
-not_u (U n) e = cc
-not_u NotU e = refl
-
-not_i : (v : Signed) → is_i v ≡ false → or_i v ≡ pos 0
-not_i (I n) e = cc
-not_i NotI e = refl
-
-not_r : (y : Float) (v : Real) → is_r v ≡ false → or_r y v ≡ y
-not_r y (R z p) e = cc
-not_r y NotR e = refl
+not_some : {A : Type 0} (v : Option A) (d : A) → is_some v ≡ false → unwrap_or v d ≡ d
+not_some (Some held) d e = cc
+not_some None d e = refl
 
 module _ (P : Fault → Type 0) (l : List ℕ) (at : Columns) where
   each_number : (sort : Sort) (ok : Bool) → (ltb (length l) at.end ≡ true → P (short_at at)) → (ok ≡ false → P (wrong_at sort at))
@@ -112,34 +100,35 @@ module _ (k : Kind) (g : Given) where
   unfolding unsigned_at
   unsigned-put at h =
       let so = same_eq (called (value.Unsigned 0)) (default_text k at.start) h in
-      each_number (Shows k g (u at)) l at USort (is_u (unsigned_of (part_of l at)))
+      each_number (Shows k g (u at)) l at USort (is_some (unsigned_of (part_of l at)))
       (λ e. put (u at) at.start (short_at at) (value.Unsigned 0) (own at.start) (λ rest. refl) so (rw (part-short l at e, unsigned-none) refl))
-      (λ e. put (u at) at.start (wrong_at USort at) (value.Unsigned 0) (own at.start) (λ rest. refl) so (rw (not_u (unsigned_of (part_of l at)) e) refl))
+      (λ e. put (u at) at.start (wrong_at USort at) (value.Unsigned 0) (own at.start) (λ rest. refl) so (rw (not_some (unsigned_of (part_of l at)) 0 e) refl))
 
   signed-put : (at : Columns) → T (agrees k (i at)) → Each (Shows k g (i at)) (faults_by g (i at))
   unfolding signed_at
   signed-put at h =
       let so = same_eq (called (value.Signed (pos 0))) (default_text k at.start) h in
-      each_number (Shows k g (i at)) l at ISort (is_i (signed_of (part_of l at)))
+      each_number (Shows k g (i at)) l at ISort (is_some (signed_of (part_of l at)))
       (λ e. put (i at) at.start (short_at at) (value.Signed (pos 0)) (own at.start) (λ rest. refl) so (rw (part-short l at e, signed-none) refl))
-      (λ e. put (i at) at.start (wrong_at ISort at) (value.Signed (pos 0)) (own at.start) (λ rest. refl) so (rw (not_i (signed_of (part_of l at)) e) refl))
+      (λ e. put (i at) at.start (wrong_at ISort at) (value.Signed (pos 0)) (own at.start) (λ rest. refl) so (rw (not_some (signed_of (part_of l at)) (pos 0) e) refl))
 
   -- with as many places as it has, which don't matter here
   real-put : (at : Columns) (y : Float) → T (agrees k (r at y)) → Each (Shows k g (r at y)) (faults_by g (r at y))
   unfolding real_at
   real-put at y h =
       let so = same_eq (called (value.Real y 0)) (default_text k at.start) h in
-      each_number (Shows k g (r at y)) l at RSort (is_r (real_with on (part_of l at)))
-      (λ e. put (r at y) at.start (short_at at) (value.Real y (places_at on l at)) (own at.start) (λ rest. refl) so (rw (part-short l at e, real-none on) refl))
-      (λ e. put (r at y) at.start (wrong_at RSort at) (value.Real y (places_at on l at)) (own at.start) (λ rest. refl) so (rw (not_r y (real_with on (part_of l at)) e) refl))
+      let shown_of : Real → List Row = λ v. at.start is value.Real v.value (places_at on l at) ∷ [] in
+      each_number (Shows k g (r at y)) l at RSort (is_some (real_with on (part_of l at)))
+      (λ e. put (r at y) at.start (short_at at) (value.Real y (places_at on l at)) (own at.start) (λ rest. refl) so (ap shown_of (ap (λ (t : List ℕ). unwrap_or (real_with on t) (real y 0)) (part-short l at e) ∙ ap (λ (o : Option Real). unwrap_or o (real y 0)) (real-none on))))
+      (λ e. put (r at y) at.start (wrong_at RSort at) (value.Real y (places_at on l at)) (own at.start) (λ rest. refl) so (ap shown_of (not_some (real_with on (part_of l at)) (real y 0) e)))
 
   factor-put : (at : Columns) → T (agrees k (a at)) → Each (Shows k g (a at)) (faults_by g (a at))
   unfolding factor_at
   factor-put at h =
       let so = same_eq (called (value.Factor zero_real)) (default_text k at.start) h in
-      each_number (Shows k g (a at)) l at ISort (is_r (ten_thousandths_of (part_of l at)))
+      each_number (Shows k g (a at)) l at ISort (is_some (ten_thousandths_of (part_of l at)))
       (λ e. put (a at) at.start (short_at at) (value.Factor zero_real) (own at.start) (λ rest. refl) so (rw (part-short l at e, factor-none) refl))
-      (λ e. put (a at) at.start (wrong_at ISort at) (value.Factor zero_real) (own at.start) (λ rest. refl) so (rw (not_r zero_real (ten_thousandths_of (part_of l at)) e) refl))
+      (λ e. put (a at) at.start (wrong_at ISort at) (value.Factor zero_real) (own at.start) (λ rest. refl) so (rw (not_some (ten_thousandths_of (part_of l at)) zero_real e) refl))
 
   text-put : (at : Columns) → T (agrees k (t at)) → Each (Shows k g (t at)) (faults_by g (t at))
   unfolding text_faults text_at span_of trimmed end_trimmed leading kept
@@ -170,12 +159,12 @@ module _ (k : Kind) (g : Given) where
 
   rest_put : (start : ℕ) → T (agrees k (u-rest start)) → Each (Shows k g (u-rest start)) (faults_by g (u-rest start))
   unfolding unsigned_from_faults unsigned_from
-  rest_put start h = go (is_u (unsigned_of (rest_of l start))) refl (same_eq (called (value.Unsigned 0)) (default_text k start) h)
+  rest_put start h = go (is_some (unsigned_of (rest_of l start))) refl (same_eq (called (value.Unsigned 0)) (default_text k start) h)
     where
-      go : (p : Bool) → is_u (unsigned_of (rest_of l start)) ≡ p → called (value.Unsigned 0) ≡ default_text k start
+      go : (p : Bool) → is_some (unsigned_of (rest_of l start)) ≡ p → called (value.Unsigned 0) ≡ default_text k start
           → Each (Shows k g (u-rest start)) (cond p [] (wrong_at USort (rest_columns l start) ∷ []))
       go true e so = tt
-      go false e so = (put (u-rest start) start (wrong_at USort (rest_columns l start)) (value.Unsigned 0) (own start) (λ rest. refl) so (rw (not_u (unsigned_of (rest_of l start)) e) refl), tt)
+      go false e so = (put (u-rest start) start (wrong_at USort (rest_columns l start)) (value.Unsigned 0) (own start) (λ rest. refl) so (rw (not_some (unsigned_of (rest_of l start)) 0 e) refl), tt)
 
   charge-put : (at : Columns) → T (agrees k (charge at)) → Each (Shows k g (charge at)) (faults_by g (charge at))
   unfolding charge_faults charge_faults_of charge_at charge_of

@@ -1,23 +1,23 @@
--- `account::rows::is_cut` meets its contract. The loop's invariant: the faults from the place on answer what all of them do.
--- Assumes nothing.
-use native.Mathlib.Omega.{arith}
-use Rattle.account.proofs.Laws.Loops.{cut-found, cut-next, cut-done}
+use mathlib.Core.Path.{◌≡◌, refl, ◌∙◌}
+use mathlib.Core.List.{List, [], ◌∷◌}
+use lib.Dec.{eqb}
 use borrow.Author.Rules.{rules}
+use borrow.Author.Tests.{tests}
+use Rattle.std.proofs.lemmas.Iterator.{YieldsList-from_slice}
+use Rattle.std.proofs.lemmas.Iterator.Search.{any_from_yields_List}
+use Rattle.std.specs.List.{list_any}
+use Rattle.line.specs.Faults.{number_of}
+use Rattle.line.specs.declared.fault.Fault.{Fault}
+use Rattle.account.specs.Account.{is_cut}
 use Rattle.account.proofs.rows.is_cut.Goals as goal
 
-pub returns-then-number_of-eq1 : goal.returns-then-number_of-eq1
-returns-then-number_of-eq1 c =
-    let l = c.loop-i in
-    let many = c.well_formed in
-    cut-found c.args.faults c.args.count (omega arith) l.i _ l.invariant.1 _ _ c.loop-i-test.true c.number_of.ensures c.if-number_of-eq1.true
-
-pub loop-i-preserved : goal.loop-i-preserved
-loop-i-preserved c =
-    let l = c.loop-i in
-    let many = c.well_formed in
-    (search rules, cut-next c.args.faults c.args.count (omega arith) l.i _ l.invariant.1 _ _ c.loop-i-test.true c.number_of.ensures c.if-number_of-eq1.false)
+same : (fs : List Fault) → list_any (λ (f : Fault). eqb (number_of f.kind) 1) fs ≡ is_cut fs
+unfolding is_cut
+same [] = refl
+same (f ∷ t) = rw (same t) refl
 
 pub returns : goal.returns
 returns c =
-    let many = c.well_formed in
-    cut-done c.args.faults c.args.count (omega arith) c.loop-i.i _ c.loop-i.invariant.1 c.loop-i-test.false
+    any_from_yields_List (λ (f : Fault). eqb (number_of f.kind) 1) _ _ c.any.result c.any.ensures.ran
+    (YieldsList-from_slice c.args.faults.now c.iter.ensures.rest) (λ x b q k. search (rules, tests))
+    ∙ same c.args.faults.now

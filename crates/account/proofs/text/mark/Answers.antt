@@ -1,17 +1,18 @@
--- `account::text::mark` meets its contract: its tests are the definition's.
+-- `account::text::mark` meets its contract: its arms are the definition's tests.
 -- Assumes nothing.
-use borrow.Author.Tests.{le-leb, lt-leb}
+use Rattle.std.proofs.Common.{arith}
+use Rattle.std.proofs.lemmas.Grind.{common_steps}
 use Rattle.account.specs.Account.{mark}
 use Rattle.account.proofs.text.mark.Goals as goal
 
-pub returns-then-b-lt32 : goal.returns-then-b-lt32
+pub returns-in-32-to-126 : goal.returns-in-32-to-126
 unfolding mark
-returns-then-b-lt32 c = simp (lt-leb 32 _ c.if-b-lt32.true)
+returns-in-32-to-126 c = grind (arith, common_steps)
 
-pub returns-then-b-gt126 : goal.returns-then-b-gt126
+pub returns-in_default : goal.returns-in_default
 unfolding mark
-returns-then-b-gt126 c = simp (le-leb 32 _ c.if-b-lt32.false, lt-leb _ 126 c.if-b-gt126.true)
+returns-in_default c = grind (arith, common_steps)
 
-pub returns : goal.returns
+pub returns-in_default-2 : goal.returns-in_default-2
 unfolding mark
-returns c = simp (le-leb 32 _ c.if-b-lt32.false, le-leb _ 126 c.if-b-gt126.false)
+returns-in_default-2 c = grind (arith, common_steps)

@@ -2,17 +2,16 @@
 -- Assumes nothing.
 use Prim.Native.Nat.{ℕ}
 use mathlib.Core.List.{[], ◌∷◌}
+use borrow.Author.Rules.{rules}
 use Rattle.layout.proofs.Laws.Each.{each_next, each-done}
 use Rattle.account.specs.Account.{mark}
-use borrow.Author.Rules.{rules}
 use Rattle.account.proofs.text.put_marked.Goals as goal
 
-pub loop-i-preserved : goal.loop-i-preserved
-loop-i-preserved c =
-    let l = c.loop-i in
-    let t = c.args.text.now in
+pub loop-b-preserved : goal.loop-b-preserved
+loop-b-preserved c =
+    let l = c.loop-b in
     let turned = rw c.mark.ensures at c.put_byte-next.ensures in
-    (search rules, search rules, each_next (λ (b : ℕ). mark b ∷ []) t l.i _ _ 0 _ c.loop-i-test.true turned l.invariant.2)
+    (search rules, each_next (λ (b : ℕ). mark b ∷ []) _ l.b-index _ _ 0 _ c.loop-b-test.true turned l.invariant.1)
 
 pub returns : goal.returns
-returns c = each-done (λ (b : ℕ). mark b ∷ []) _ _ _ _ c.loop-i-test.false c.loop-i.invariant.2
+returns c = each-done (λ (b : ℕ). mark b ∷ []) _ _ _ _ c.loop-b-test.false c.loop-b.invariant.1
