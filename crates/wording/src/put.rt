@@ -59,10 +59,8 @@ pub(crate) fn put_rows(out: &mut [u64], at: usize, line: &[u8], rows: [Row; 16])
     ensures { Puts out.old at (specs.rows_words line.now rows) result out.new }
 {
     let mut next = at;
-    let mut i = 0;
-    while i < 16 {
-        next = put_row(out, next, line, rows[i]);
-        i += 1;
+    for row in &rows {
+        next = put_row(out, next, line, *row);
     }
     next
 }
