@@ -1,15 +1,15 @@
 -- The checksum by which the sides of the speed bench are compared. Line after line, of what lexing the line answers: the bits of the five
 -- doubles of an ATOM or HETATM, in the order x, y, z, occupancy, B-factor; then how many faults there are. A sum sees the order of what is mixed
 -- into it, and loses nothing of it, since three is odd.
-use Rattle.std.specs.Prelude.{ℕ, ◌+◌, ◌*◌, ◌%◌, ◌^◌, List, [], ◌∷◌, replicate, to_bits, Float}
+use Rattle.std.specs.Prelude.{ℕ, ◌+◌, ◌*◌, ◌%◌, ◌^◌, List, [], ◌∷◌, replicate, to_bits, Float, Result, Ok, Err}
 use Rattle.std.specs.Float.{binary64}
 use Rattle.lexer.specs.Lexed.{lexed}
 use Rattle.lexer.specs.Refusals.{Input}
 use Rattle.lexitem.specs.declared.answer.Answer.{Answer}
-use Rattle.lexitem.specs.declared.answer.Outcome.{Outcome}
-use Rattle.lexitem.specs.declared.answer.Outcome.TheVariants.{Accepted, Refused}
 use Rattle.atom.specs.declared.record.Atom.{Atom}
 use Rattle.lexitem.specs.Describe.{atom_in}
+use Rattle.lexitem.specs.declared.answer.Refusal.{Refusal}
+use Rattle.lexitem.specs.declared.item.LexItem.{LexItem}
 use Rattle.line.specs.Options.{plain}
 use Rattle.walker.specs.Lines.{lines_of}
 
@@ -30,9 +30,9 @@ abbrev pub mixed_atoms : ℕ → List Atom → ℕ
 mixed_atoms sum [] = sum
 mixed_atoms sum (a ∷ rest) = mixed_atoms (mixed_atom sum a) rest
 
-abbrev pub mixed_outcome : ℕ → Outcome → ℕ
-mixed_outcome sum (Accepted r) = mixed_atoms sum (atom_in r)
-mixed_outcome sum (Refused r) = sum
+abbrev pub mixed_outcome : ℕ → Result LexItem Refusal → ℕ
+mixed_outcome sum (Ok r) = mixed_atoms sum (atom_in r)
+mixed_outcome sum (Err r) = sum
 
 unfoldable pub mixed_answer : ℕ → Answer → ℕ
 mixed_answer sum a = mixed (mixed_outcome sum a.outcome) a.faults.count

@@ -9,17 +9,17 @@ ghost use Rattle.bench_read.specs.Checksum as specs;
 
 use atom::record::Atom;
 use lexer::lex_line;
-use lexitem::answer::Outcome;
+use lexitem::answer::Refusal;
 use lexitem::item::LexItem;
 use line::options::Options;
 use page::bits_of;
-use std::num::wrapping_add_u64;
-use walker::lines::{Step, line, line_at};
+use walker::Line;
+use walker::lines::{line, line_at};
 
 fn mixed(sum: u64, value: u64) -> u64
     ensures { result ≡ specs.mixed sum value }
 {
-    wrapping_add_u64(wrapping_add_u64(wrapping_add_u64(sum, sum), sum), value)
+    sum.wrapping_mul(3).wrapping_add(value)
 }
 
 fn mixed_real(sum: u64, x: f64) -> u64
@@ -39,25 +39,23 @@ fn mixed_atom(sum: u64, atom: Atom) -> u64
     mixed_real(occupancy, atom.bfactor)
 }
 
-fn mixed_outcome(sum: u64, outcome: Outcome) -> u64
+fn mixed_outcome(sum: u64, outcome: Result<LexItem, Refusal>) -> u64
     ensures { result ≡ specs.mixed_outcome sum outcome }
 {
-    let Outcome::Accepted(item) = outcome else {
-        return sum;
-    };
-    let LexItem::Atom(atom) = item else {
-        return sum;
-    };
-    mixed_atom(sum, atom)
+    match outcome {
+        Ok(LexItem::Atom(atom)) => mixed_atom(sum, atom),
+        _ => sum,
+    }
 }
 
 fn mixed_line(sum: u64, text: &[u8], number: usize, remarks: &[u8]) -> u64
     ensures { result ≡ specs.mixed_answer sum (lexed (record { line = text.now; number = number; options = plain; remarks = remarks.now })) }
 {
     let answer = lex_line(text, number, Options::PLAIN, remarks);
-    let faults = answer.faults;
-    let outcome = answer.outcome;
-    mixed(mixed_outcome(sum, outcome), faults.count as u64)
+    mixed(
+        mixed_outcome(sum, answer.outcome),
+        answer.faults.count as u64,
+    )
 }
 
 // The checksum of a file of any bytes.
@@ -69,10 +67,7 @@ pub extern "C" fn saltighedda_bench(file: &[u8]) -> u64
     let mut sum = 0;
     let mut count = 0;
     let mut at = 0;
-    while at < file.len() {
-        let Step::At { start, end, next } = line_at(file, at) else {
-            return sum;
-        };
+    while let Some(Line { start, end, next }) = line_at(file, at) {
         let text = line(file, start, end);
         count += 1;
         sum = mixed_line(sum, text, count, &remarks);

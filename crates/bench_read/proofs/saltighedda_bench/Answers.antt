@@ -22,25 +22,20 @@ done : (f : List ℕ) (at count sum : ℕ) → length f ≤ at → checksum_from
 unfolding checksum_from
 done f at count sum h v = sym (ap (checksum_from count sum) (end-lines f at h)) ∙ v
 
-pub loop-at-init : goal.loop-at-init
+pub loop-start-init : goal.loop-start-init
 unfolding checksum_of
-loop-at-init c = (search rules, search rules, refl)
+loop-start-init c = (search rules, search rules, refl)
 
-pub returns-in_default : goal.returns-in_default
-returns-in_default c =
-    let l = c.loop-at in
-    done _ _ _ _ ((step_end _ _).0 (sym c.line_at.ensures ∙ c.in_default.is)) l.invariant.2
-
-pub loop-at-smaller : goal.loop-at-smaller
-loop-at-smaller c =
-    let s = step-served _ _ _ _ _ (sym c.line_at.ensures ∙ c.in-At.is) in
+pub loop-start-smaller : goal.loop-start-smaller
+loop-start-smaller c =
+    let s = step-served _ _ _ (sym c.line_at.ensures ∙ c.in-Some.is) in
     omega arith
 
-pub loop-at-preserved : goal.loop-at-preserved
-loop-at-preserved c =
-    let s = step-served _ _ _ _ _ (sym c.line_at.ensures ∙ c.in-At.is) in
-    let l = c.loop-at in
+pub loop-start-preserved : goal.loop-start-preserved
+loop-start-preserved c =
+    let s = step-served _ _ _ (sym c.line_at.ensures ∙ c.in-Some.is) in
+    let l = c.loop-start in
     (omega arith, omega arith, summed _ _ _ _ _ _ _ _ _ s c.line-text.ensures c.mixed_line-sum.ensures l.invariant.2)
 
 pub returns : goal.returns
-returns c = done _ _ _ _ c.loop-at-test.false c.loop-at.invariant.2
+returns c = done _ _ _ _ ((step_end _ _).0 (sym c.line_at.ensures ∙ c.in_default.is)) c.loop-start.invariant.2
