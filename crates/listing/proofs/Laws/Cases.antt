@@ -11,6 +11,7 @@ use mathlib.Core.Path.{◌≡◌, refl}
 use mathlib.Core.List.{List, [], ◌∷◌, ◌++◌}
 use lib.IntN.{pos, negsuc}
 use lib.Ieee.{binary64, of_bits, to_bits}
+use Rattle.std.specs.Prelude.{None}
 use Rattle.line.specs.Bytes.{bytes}
 use Rattle.line.specs.Text.{within_of}
 use Rattle.line.specs.declared.fault.FaultKind.TheVariants.{Wrong}
@@ -18,7 +19,6 @@ use Rattle.line.specs.declared.fault.Sort.TheVariants.{Unsigned}
 use Rattle.line.specs.declared.options.Mode.{Mode}
 use Rattle.line.specs.declared.options.Mode.TheVariants.{Crate, WwPdb}
 use Rattle.lexitem.specs.declared.item.LexItem.TheVariants.{Model, Scale, Dbref1, Seqadv, Modres}
-use Rattle.seqadv.specs.declared.record.Target.TheVariants.{NoResidue}
 use Rattle.line.specs.declared.text.Character.TheVariants.{At, Unreached, Absent}
 use Rattle.line.specs.declared.text.Text.{Text}
 use Rattle.page.specs.Numerals.{decimal_before, decimal, signed_decimal, hex_digit, hex_before, hex16, plain, shown, escaped}
@@ -119,7 +119,7 @@ pub seqadv : listing_of 8 (97 ∷ 98 ∷ [])
       insertion = At 1;
       database = text 0 0;
       accession = text 0 0;
-      target = NoResidue;
+      target = None;
       comment = text 0 0;
     }))
     []
