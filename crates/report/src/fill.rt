@@ -5,11 +5,10 @@ ghost use Rattle.listing.specs.Listing.{longest};
 ghost use Rattle.page.specs.Page.{page, put};
 ghost use Rattle.report.specs.Fill as specs;
 ghost use Rattle.report.specs.Report.{input_of, report, report_of};
-ghost use Rattle.walker.specs.Lines.{part_of};
 
 use crate::put_report;
 use line::options::Options;
-use walker::lines::{Step, line};
+use walker::lines::line;
 use walker::{following, step};
 
 // Room enough for any report.
@@ -23,20 +22,12 @@ pub fn put_line(text: &[u8], number: usize, out: &mut [u8]) -> usize
     put_report(text, number, Options::PLAIN, &remarks, out)
 }
 
-// The report of the line from `start` up to `end` behind the first n of lent bytes. It is lent no more than the longest report needs, so that
-// what is put doesn't hang on how many bytes there are.
-fn put_behind(
-    file: &[u8],
-    start: usize,
-    end: usize,
-    number: usize,
-    out: &mut [u8],
-    n: usize,
-) -> usize
+// A line's report behind the first n of lent bytes. It is lent no more than the longest report needs, so that what is put doesn't depend on how
+// many bytes there are.
+fn put_behind(text: &[u8], number: usize, out: &mut [u8], n: usize) -> usize
     requires { n + longest ≤ length out.old }
-    ensures { specs.PutBehind out.old n (report number (part_of file.now start end)) out.new result }
+    ensures { specs.PutBehind out.old n (report number text.now) out.new result }
 {
-    let text = line(file, start, end);
     let most = n + LONGEST;
     put_line(text, number, &mut out[n..most])
 }
@@ -53,24 +44,18 @@ pub struct Filled {
 pub fn put_reports(file: &[u8], at: usize, number: usize, out: &mut [u8]) -> Filled
     ensures { specs.Fills out.old (specs.filling (length out.old) file.now at number) out.new result }
 {
-    let mut i = at;
-    let mut k = number;
-    let mut n = 0;
-    while LONGEST <= out.len() - n {
-        let Step::At { start, end, next } = step(file, i) else {
-            return Filled {
-                at: i,
-                number: k,
-                n,
-            };
+    let mut filled = Filled { at, number, n: 0 };
+    while LONGEST <= out.len() - filled.n {
+        let Some(found) = step(file, filled.at) else {
+            return filled;
         };
-        n += put_behind(file, start, end, k, out, n);
-        i = next;
-        k = following(k);
+        let text = line(file, found.start, found.end);
+        let more = put_behind(text, filled.number, out, filled.n);
+        filled = Filled {
+            at: found.next,
+            number: following(filled.number),
+            n: filled.n + more,
+        };
     }
-    Filled {
-        at: i,
-        number: k,
-        n,
-    }
+    filled
 }

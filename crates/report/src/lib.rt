@@ -8,7 +8,7 @@ ghost use Rattle.report.specs.Report.{refused_rows, report_of};
 use layout::{put_head, put_three};
 use lexitem::answer::Refusal;
 use line::options::Options;
-use listing::{Listed, list_line};
+use listing::list_line;
 
 pub mod fill;
 
@@ -38,7 +38,7 @@ pub fn put_report(
     ensures { page out.new result ≡ put (page out.old 0) (report_of (length out.old) (record { line = line.entry.now; number = number; options = options; remarks = remarks.now })) }
 {
     match list_line(line, number, options, remarks, out) {
-        Listed::Refused(refusal) => put_refused(out, 0, number, refusal),
-        Listed::Written(n) => n,
+        Ok(n) => n,
+        Err(refusal) => put_refused(out, 0, number, refusal),
     }
 }

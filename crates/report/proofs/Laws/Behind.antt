@@ -20,10 +20,9 @@ part-rest l m k h a =
     let t : length (take m l) ≡ m = length-take-le m l h in
     sym (drop-append-le k (take m l) (drop m l) (omega arith)) ∙ ap (drop k) (take-append-drop m l)
 
--- what was put for a line l that has a number k; both are those that were asked for
-module _ (before l text part : List ℕ) (k number n m r : ℕ) (h : n + longest ≤ length before) (e : m ≡ longest) (same : k ≡ number)
-    (alike : l ≡ text)
-    (p : page part r ≡ put (page (take m (drop n before)) 0) (report_of (length (take m (drop n before))) (input_of k l))) where
+-- what was put for a line that has a number
+module _ (before text part : List ℕ) (number n m r : ℕ) (h : n + longest ≤ length before) (e : m ≡ longest)
+    (p : page part r ≡ put (page (take m (drop n before)) 0) (report_of (length (take m (drop n before))) (input_of number text))) where
   pub put-behind : PutBehind before n (report number text) (take n before ++ (part ++ drop m (drop n before))) r
   unfolding report
   put-behind =
@@ -31,7 +30,7 @@ module _ (before l text part : List ℕ) (k number n m r : ℕ) (h : n + longest
       let lent = take m (drop n before) in
       let d = length-drop n before in
       let many : length lent ≡ longest = length-take-le m (drop n before) (omega arith) ∙ e in
-      let f : page part r ≡ put (page lent 0) t = rw (many, same, alike) at p in
+      let f : page part r ≡ put (page lent 0) t = rw many at p in
       let room = report-room (input_of number text) in
       let bytes = ap (λ (q : Page). q.bytes) f ∙ put_front lent t (omega arith) (omega arith) in
       let rest = part-rest (drop n before) m (length t) (omega arith) (omega arith) ∙ drop-drop (length t) n before in

@@ -13,12 +13,12 @@ use native.Mathlib.Omega.{arith}
 use borrow.Author.Tests.{le-leb}
 use lib.ListN.{length, take, length-append}
 use lib.Seq.{take_at}
+use Rattle.std.specs.Prelude.{Result, Ok, Err}
 use Rattle.layout.specs.Label.{head_rows, number_row, three_row}
 use Rattle.lexer.specs.Lexed.{lexed}
 use Rattle.lexer.specs.Refusals.{Input}
-use Rattle.lexitem.specs.declared.answer.Outcome.{Outcome}
-use Rattle.lexitem.specs.declared.answer.Outcome.TheVariants.{Accepted, Refused}
 use Rattle.lexitem.specs.declared.answer.Refusal.{Refusal}
+use Rattle.lexitem.specs.declared.item.LexItem.{LexItem}
 use Rattle.listing.specs.Listed.{listing_by}
 use Rattle.listing.specs.Listing.{longest}
 use Rattle.listing.proofs.Laws.Longest.{listing_longest}
@@ -38,21 +38,21 @@ refused-most number r =
 
 -- ---- a report with room enough
 -- the listing of an accepted line, or the rows of a refused line's refusal
-abbrev pub whole_by : Input → Outcome → List ℕ
-whole_by i (Accepted x) = listing_by i x
-whole_by i (Refused r) = refused_rows i.number r
+abbrev pub whole_by : Input → Result LexItem Refusal → List ℕ
+whole_by i (Ok x) = listing_by i x
+whole_by i (Err r) = refused_rows i.number r
 
-whole : (i : Input) (o : Outcome) → (lexed i).outcome ≡ o → report_by longest i o ≡ whole_by i o
-whole i (Accepted x) e = rw (le-leb (length (listing_by i x)) longest (listing_longest i x e)) refl
-whole i (Refused r) e = refl
+whole : (i : Input) (o : Result LexItem Refusal) → (lexed i).outcome ≡ o → report_by longest i o ≡ whole_by i o
+whole i (Ok x) e = rw (le-leb (length (listing_by i x)) longest (listing_longest i x e)) refl
+whole i (Err r) e = refl
 
 pub report-whole : (i : Input) → report_of longest i ≡ whole_by i (lexed i).outcome
 unfolding report_of
 report-whole i = whole i (lexed i).outcome refl
 
-whole_room : (i : Input) (o : Outcome) → (lexed i).outcome ≡ o → length (whole_by i o) ≤ longest
-whole_room i (Accepted x) e = listing_longest i x e
-whole_room i (Refused r) e = let h = refused-most i.number r in omega arith
+whole_room : (i : Input) (o : Result LexItem Refusal) → (lexed i).outcome ≡ o → length (whole_by i o) ≤ longest
+whole_room i (Ok x) e = listing_longest i x e
+whole_room i (Err r) e = let h = refused-most i.number r in omega arith
 
 pub report-room : (i : Input) → length (report_of longest i) ≤ longest
 report-room i = rw (report-whole i) (whole_room i (lexed i).outcome refl)

@@ -12,9 +12,10 @@ use native.Mathlib.Omega.{arith}
 use borrow.Author.Tests.{lt-ltb, le-ltb}
 use lib.ListN.{length, take, drop, length-append, length-drop, take-append-drop}
 use lib.Seq.{drop-drop, take_at, drop_at, length-take-le}
+use Rattle.std.specs.Prelude.{Some, None}
 use Rattle.listing.specs.Listing.{longest}
 use Rattle.walker.specs.Lines.{lines_of, line_taken, step_at, part_of, number_behind}
-use Rattle.walker.specs.declared.lines.Step.TheVariants.{At, End}
+use Rattle.walker.specs.declared.Line.{Line}
 use Rattle.walker.proofs.Laws.Lines.{step-served, step_in, step_end, end-lines}
 use Rattle.report.specs.Report.{report}
 use Rattle.report.specs.Fill.{Filling, stop, behind, fill, filling, Fills, PutBehind}
@@ -44,20 +45,20 @@ filling-end : (room : ℕ) (f : List ℕ) (i k : ℕ) → lines_of (drop i f) �
 unfolding filling fill
 filling-end room f i k e = rw e refl
 
-filling_line : (room : ℕ) (f : List ℕ) (i k start end next : ℕ) → longest ≤ room → step_at f i ≡ At start end next
-    → filling room f i k ≡ behind (report k (part_of f start end)) (filling (room - length (report k (part_of f start end))) f next (number_behind k))
+filling_line : (room : ℕ) (f : List ℕ) (i k : ℕ) (x : Line) → longest ≤ room → step_at f i ≡ Some x
+    → filling room f i k ≡ behind (report k (part_of f x.start x.end)) (filling (room - length (report k (part_of f x.start x.end))) f x.next (number_behind k))
 unfolding filling fill
-filling_line room f i k start end next h e =
-    let s = step-served f i start end next e in
+filling_line room f i k x h e =
+    let s = step-served f i x e in
     let moves = s.moves in
     let within = s.within in
     let inside = step_in f i (omega arith) in
-    let a : i + line_taken (drop i f) ≡ next = cc in
+    let a : i + line_taken (drop i f) ≡ x.next = cc in
     rw (s.lines, le-ltb room longest h, a, s.part) refl
 
 -- a step goes on, and not past the end
-pub step-further : (f : List ℕ) (i start end next : ℕ) → step_at f i ≡ At start end next → (i < next) × (next ≤ length f)
-step-further f i start end next e = let s = step-served f i start end next e in (s.moves, s.within)
+pub step-further : (f : List ℕ) (i : ℕ) (x : Line) → step_at f i ≡ Some x → (i < x.next) × (x.next ≤ length f)
+step-further f i x e = let s = step-served f i x e in (s.moves, s.within)
 
 -- ---- one turn of the loop
 module _ (f : List ℕ) (at number : ℕ) (before after : List ℕ) (i k n : ℕ) (h : So f at number before after i k n) where
@@ -80,19 +81,19 @@ module _ (f : List ℕ) (at number : ℕ) (before after : List ℕ) (i k n : ℕ
       → Fills before (filling (length before) f at number) after (record { at = i; number = k; n = n })
   so-full l = stops (filling-full (length before - n) f i k l)
 
-  pub so-end : step_at f i ≡ End → Fills before (filling (length before) f at number) after (record { at = i; number = k; n = n })
+  pub so-end : step_at f i ≡ None → Fills before (filling (length before) f at number) after (record { at = i; number = k; n = n })
   so-end e = stops (filling-end (length before - n) f i k (end-lines f i ((step_end f i).0 e)))
 
-  module _ (start end next : ℕ) (later : List ℕ) (r : ℕ) (room : longest ≤ length before - n) (e : step_at f i ≡ At start end next)
-      (put : PutBehind after n (report k (part_of f start end)) later r) where
+  module _ (x : Line) (later : List ℕ) (r : ℕ) (room : longest ≤ length before - n) (e : step_at f i ≡ Some x)
+      (put : PutBehind after n (report k (part_of f x.start x.end)) later r) where
     -- the report is put behind what was put before
-    again : (t : List ℕ) (x : Filling) → filling (length before - n) f i k ≡ behind t x
-        → behind (take n after ++ t) x ≡ filling (length before) f at number
-    again t x g = rw (append_assoc (take n after) t x.text) (rw g at h.made)
+    again : (t : List ℕ) (y : Filling) → filling (length before - n) f i k ≡ behind t y
+        → behind (take n after ++ t) y ≡ filling (length before) f at number
+    again t y g = rw (append_assoc (take n after) t y.text) (rw g at h.made)
 
-    pub so-next : So f at number before later next (number_behind k) (n + r)
+    pub so-next : So f at number before later x.next (number_behind k) (n + r)
     so-next =
-        let t = report k (part_of f start end) in
+        let t = report k (part_of f x.start x.end) in
         let size = h.size in
         let within = h.within in
         let most = put.most in
@@ -100,11 +101,11 @@ module _ (f : List ℕ) (at number : ℕ) (before after : List ℕ) (i k n : ℕ
         let back = length-drop (n + length t) after in
         let all = length-append (take n after ++ t) (drop (n + length t) after) in
         let less : length before - (n + length t) ≡ length before - n - length t = omega arith in
-        let turn = filling_line (length before - n) f i k start end next room e in
+        let turn = filling_line (length before - n) f i k x room e in
         rw put.count (record {
           made =
               rw (put.bytes, take_at (take n after ++ t) (drop (n + length t) after) (n + length t) many, less)
-              (again t (filling (length before - n - length t) f next (number_behind k)) turn);
+              (again t (filling (length before - n - length t) f x.next (number_behind k)) turn);
           rest =
               rw (put.bytes, drop_at (take n after ++ t) (drop (n + length t) after) (n + length t) many)
               (sym (drop-drop (length t) n after) ∙ ap (drop (length t)) h.rest ∙ drop-drop (length t) n before);

@@ -13,15 +13,15 @@ pub returns-in_default : goal.returns-in_default
 returns-in_default c = so-end _ _ _ _ _ _ _ _ c.loop-out.invariant (sym c.step.ensures ∙ c.in_default.is)
 
 pub loop-out-smaller : goal.loop-out-smaller
-loop-out-smaller c = omega (arith, step-further _ _ _ _ _ (sym c.step.ensures ∙ c.in-At.is))
+loop-out-smaller c = omega (arith, step-further _ _ _ (sym c.step.ensures ∙ c.in-Some.is))
 
 pub loop-out-preserved : goal.loop-out-preserved
 loop-out-preserved c =
-    rw c.following-k.ensures
-    (so-next _ _ _ _ _ _ _ _ c.loop-out.invariant _ _ _ _ _
+    rw c.following.ensures
+    (so-next _ _ _ _ _ _ _ _ c.loop-out.invariant _ _ _
     (omega (arith, c.loop-out.invariant.size, c.loop-out-test.true))
-    (sym c.step.ensures ∙ c.in-At.is)
-    c.put_behind-n.ensures)
+    (sym c.step.ensures ∙ c.in-Some.is)
+    (rw c.line-text.ensures at c.put_behind-more.ensures))
 
 pub returns : goal.returns
 returns c = so-full _ _ _ _ _ _ _ _ c.loop-out.invariant (omega (arith, c.loop-out.invariant.size, c.loop-out-test.false))
