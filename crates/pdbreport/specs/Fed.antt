@@ -1,7 +1,7 @@
 -- A file that comes byte by byte, so that it doesn't matter in which parts: what is known after some of them, and what is printed for each. Of an
 -- unfinished line the first 1,024 bytes are kept, and how many there are; a longer one is refused by its length alone. No contract can say which bytes a
 -- read brings or what a write does. So what is handed to `write` has to be what is due by what is known, and that has to be what bytes left that came.
-use Rattle.std.specs.Prelude.{ℕ, ◌+◌, ◌-◌, ◌^◌, ◌<◌, ◌≤◌, ◌≡◌, cond, List, [], ◌∷◌, ◌++◌, eqb, ltb, length, take, replicate}
+use Rattle.std.specs.Prelude.{ℕ, Err, ◌+◌, ◌-◌, ◌^◌, ◌<◌, ◌≤◌, ◌≡◌, cond, List, [], ◌∷◌, ◌++◌, eqb, ltb, length, take, replicate}
 use Rattle.account.specs.Account.{account_of}
 use Rattle.carry.specs.Held.{most_kept, State, begun, keep, ended_size}
 use Rattle.carry.specs.declared.held.Held.{Held}
@@ -10,7 +10,6 @@ use Rattle.lexer.specs.Refusals.{excess}
 use Rattle.lexitem.specs.Answer.{refusal}
 use Rattle.lexitem.specs.Fault.{no_line_faults}
 use Rattle.lexitem.specs.declared.answer.Answer.{Answer}
-use Rattle.lexitem.specs.declared.answer.Outcome.TheVariants.{Refused}
 use Rattle.walker.specs.Lines.{number_behind}
 use Rattle.pdbreport.specs.Told.{answer_of, fresh, accounts_of, summary_of}
 
@@ -19,7 +18,7 @@ unfoldable pub held_line : ℕ → List ℕ → List ℕ
 held_line size kept = cond (ltb most_kept size) kept (take size kept)
 
 abbrev pub over_answer : ℕ → ℕ → Answer
-over_answer number size = record { line = number; outcome = Refused (refusal 2 1024 (excess size)); faults = no_line_faults }
+over_answer number size = record { line = number; outcome = Err (refusal 2 1024 (excess size)); faults = no_line_faults }
 
 unfoldable pub held_answer : ℕ → ℕ → List ℕ → Answer
 held_answer number size kept = cond (ltb most_kept size) (over_answer number size) (answer_of number (take size kept))

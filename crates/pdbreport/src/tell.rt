@@ -7,7 +7,7 @@ use carry::held::Held;
 use carry::keep::MOST_KEPT;
 use ledger::enter;
 use lexer::{excess, lex_line};
-use lexitem::answer::{Answer, Outcome, Refusal};
+use lexitem::answer::{Answer, Refusal};
 use lexitem::fault::LineFaults;
 use line::options::Options;
 use std::io::Result;
@@ -67,7 +67,7 @@ fn tell_over(
     let why = Refusal::new(2, MOST_KEPT, excess(size));
     let answer = Answer {
         line: held.number,
-        outcome: Outcome::Refused(why),
+        outcome: Err(why),
         faults: LineFaults::none(),
     };
     tell(rt, held, kept, ledger, size, kept, answer)

@@ -10,19 +10,19 @@ use borrow.Author.Tests.{ltb-true, ltb-false, lt-ltb, le-ltb, eq-eqb, ne_eqb, eq
 use lib.ListN.{length, take}
 use lib.Seq.{take-length, length-take-le}
 use lib.Dec.{eqb, ltb}
+use Rattle.std.specs.Prelude.{Err}
 use Rattle.carry.specs.Held.{most_kept, most_count, State, ended_size}
 use Rattle.carry.specs.Pieces.{ended_line, last_line}
 use Rattle.carry.proofs.Laws.Held.{ends_cr, ended-take, Holds}
 use Rattle.lexer.specs.Lexed.{lexed}
 use Rattle.lexer.specs.Refusals.{excess}
 use Rattle.lexitem.specs.Answer.{refusal}
-use Rattle.lexitem.specs.declared.answer.Outcome.TheVariants.{Refused}
 use Rattle.parts.specs.Held.{over_rows, held_text, ended_text, last_text}
 use Rattle.report.specs.Fill.{reports_from}
 use Rattle.report.specs.Report.{report, report_of, input_of}
 
 -- a line over 1,024 bytes is refused by its length alone
-over-refused : (n : ℕ) (l : List ℕ) → most_kept < length l → (lexed (input_of n l)).outcome ≡ Refused (refusal 2 1024 (excess (length l)))
+over-refused : (n : ℕ) (l : List ℕ) → most_kept < length l → (lexed (input_of n l)).outcome ≡ Err (refusal 2 1024 (excess (length l)))
 unfolding lexed
 over-refused n l h = rw (lt-ltb most_kept (length l) h) refl
 
