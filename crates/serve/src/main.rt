@@ -36,10 +36,9 @@
 // are 0, and no output is sent. What is left of a block when it isn't a whole request has one such reply.
 #![tactic(auto)]
 
-ghost use Rattle.std.specs.Prelude.{◌+◌, ◌<◌, ◌≤◌, length};
+ghost use Rattle.std.specs.Prelude.{◌+◌, ◌<◌, ◌≤◌, length, IfOk};
 
 use lexer::lex_line;
-use lexitem::answer::{Answer, Outcome};
 use lexitem::item::LexItem;
 use line::fault::Faults;
 use packing::options_of;
@@ -48,7 +47,7 @@ use saltighedda::{
     saltighedda_list, saltighedda_list_length, saltighedda_list_place, saltighedda_list_refusal,
 };
 use sheet::Unwritten;
-use std::io::Read;
+use std::io::{self, Read};
 use writer::{write_as_read, write_record};
 
 // The most bytes of a block.
@@ -103,9 +102,6 @@ const CHUNKS: usize = 65;
 
 const MARK: u8 = 0xC5;
 
-// No place for a reply.
-const NOWHERE: usize = usize::MAX;
-
 const NOT_CALLED: usize = usize::MAX;
 
 const NOT_READ: usize = usize::MAX - 1;
@@ -133,6 +129,7 @@ const NAME: usize = 12;
 
 const NAME_END: usize = 16;
 
+// What the first six words of a reply say.
 #[derive(Clone, Copy)]
 struct Told {
     written: usize,
@@ -143,6 +140,20 @@ struct Told {
     faults_line: usize,
 }
 
+impl Told {
+    // A first word, with zeros behind it.
+    fn first(written: usize) -> Told {
+        Told {
+            written,
+            refusal: 0,
+            place: 0,
+            length: 0,
+            sorts: 0,
+            faults_line: 0,
+        }
+    }
+}
+
 // What the words of a line's faults say.
 #[derive(Clone, Copy)]
 struct FaultsTold {
@@ -150,48 +161,24 @@ struct FaultsTold {
     line: usize,
 }
 
-fn wide(byte: u8) -> usize {
-    byte as usize
-}
-
 fn word(bytes: &[u8], at: usize) -> usize
     requires { at + 8 ≤ length bytes.now }
 {
-    let mut n = 0;
-    let mut i = 8;
-    while 0 < i {
-        i -= 1;
-        n = n << 8 | wide(bytes[at + i]);
-    }
-    n
+    let mut eight = [0u8; WORD];
+    eight.copy_from_slice(&bytes[at..at + WORD]);
+    usize::from_le_bytes(eight)
 }
 
 fn put_word(bytes: &mut [u8], at: usize, n: usize)
     requires { at + 8 ≤ length bytes.old }
 {
-    let mut rest = n;
-    let mut i = 0;
-    while i < 8 {
-        bytes[at + i] = (rest % 256) as u8;
-        rest /= 256;
-        i += 1;
-    }
-}
-
-fn mark(bytes: &mut [u8]) {
-    let mut i = 0;
-    while i < bytes.len() {
-        bytes[i] = MARK;
-        i += 1;
-    }
+    bytes[at..at + WORD].copy_from_slice(&n.to_le_bytes());
 }
 
 // The words behind the last fault are 0 and name no sort either, so that nothing has to be counted.
 fn sorts_of(faults: [u64; FAULT_WORDS]) -> usize {
     let mut n = 0;
-    let mut i = Faults::MOST;
-    while 0 < i {
-        i -= 1;
+    for i in (0..Faults::MOST).rev() {
         let sort = faults[2 * i + 2] / 65536 % 4;
         n = n << 2 | sort as usize;
     }
@@ -202,15 +189,16 @@ fn sorts_of(faults: [u64; FAULT_WORDS]) -> usize {
 fn line_of(kind: u64, faults: [u64; FAULT_WORDS]) -> u64 {
     let count = faults[0];
     let first = faults[1];
-    let mut i = 0;
-    while i < Faults::MOST && (i as u64) < count {
+    for i in 0..Faults::MOST {
+        if count <= i as u64 {
+            return first;
+        }
         if faults[2 * i + 1] != first {
             return LINES_DIFFER;
         }
         if faults[2 * i + 2] % 256 != kind {
             return KIND_DIFFERS;
         }
-        i += 1;
     }
     first
 }
@@ -287,30 +275,9 @@ fn write_line(
     remarks: &[u8],
     out: &mut [u8],
 ) -> usize {
-    let answer: Answer = lex_line(line, number, options_of(options), remarks);
-    let outcome = answer.outcome;
-    match outcome {
-        Outcome::Accepted(item) => write_item(item, line, as_read, out),
-        Outcome::Refused(_) => NOT_READ,
-    }
-}
-
-fn write(
-    line: &[u8],
-    number: usize,
-    options: u32,
-    as_read: bool,
-    remarks: &[u8],
-    out: &mut [u8],
-) -> Told {
-    let written = write_line(line, number, options, as_read, remarks, out);
-    Told {
-        written,
-        refusal: 0,
-        place: 0,
-        length: 0,
-        sorts: 0,
-        faults_line: 0,
+    match lex_line(line, number, options_of(options), remarks).outcome {
+        Ok(item) => write_item(item, line, as_read, out),
+        Err(_) => NOT_READ,
     }
 }
 
@@ -318,54 +285,32 @@ fn write(
 fn tell(line: &[u8], number: usize, options: usize, remarks: &[u8], out: &mut [u8]) -> Told {
     let low = (options % TASK) as u32;
     if options / TASK % 2 == 1 {
-        return write(line, number, low, options / AS_READ % 2 == 1, remarks, out);
+        let as_read = options / AS_READ % 2 == 1;
+        return Told::first(write_line(line, number, low, as_read, remarks, out));
     }
     ask(line, number, low, remarks, out)
 }
 
-// The answer to what can't be asked.
-fn not_called() -> Told {
-    Told {
-        written: NOT_CALLED,
-        refusal: 0,
-        place: 0,
-        length: 0,
-        sorts: 0,
-        faults_line: 0,
-    }
-}
-
-// Answers what should be a request. The lengths are tested before they are added, so no sum is too large.
-fn call(request: &[u8], tables: &[u8], out: &mut [u8]) -> Told
+// Answers what should be a request, or None if it can't be asked. The lengths are tested before they are added, so no sum is too large.
+fn call(request: &[u8], tables: &[u8], out: &mut [u8]) -> Option<Told>
     requires { 4096 ≤ length out.old }
 {
     if request.len() < LINE {
-        return not_called();
+        return None;
     }
-    if word(request, LINE_LENGTH) != request.len() - LINE {
-        return not_called();
+    let line = &request[LINE..];
+    if word(request, LINE_LENGTH) != line.len() {
+        return None;
     }
-    let table = word(request, TABLE);
-    if tables.len() < table {
-        return not_called();
-    }
-    let table_length = word(request, TABLE_LENGTH);
-    if tables.len() - table < table_length {
-        return not_called();
-    }
+    let table = tables.get(word(request, TABLE)..)?;
+    let remarks = table.get(..word(request, TABLE_LENGTH))?;
     let room = word(request, ROOM);
     if MOST_ROOM < room {
-        return not_called();
+        return None;
     }
     let number = word(request, NUMBER);
     let options = word(request, OPTIONS);
-    tell(
-        &request[LINE..],
-        number,
-        options,
-        &tables[table..table + table_length],
-        &mut out[0..room],
-    )
+    Some(tell(line, number, options, remarks, &mut out[..room]))
 }
 
 fn put_told(reply: &mut [u8], told: Told)
@@ -380,16 +325,8 @@ fn put_told(reply: &mut [u8], told: Told)
 }
 
 // Whether a chunk is as it was marked. There is no way out before the last byte, so that many can be looked at together.
-fn is_marked(chunk: &[u8]) -> bool
-    requires { 64 ≤ length chunk.now }
-{
-    let mut other = 0u8;
-    let mut i = 0;
-    while i < CHUNK {
-        other = other | chunk[i] ^ MARK;
-        i += 1;
-    }
-    other == 0
+fn is_marked(chunk: &[u8]) -> bool {
+    chunk.iter().fold(0, |other, b| other | *b ^ MARK) == 0
 }
 
 // How many bytes of the output are to be sent.
@@ -397,11 +334,12 @@ fn changed(out: &[u8]) -> usize
     requires { 4160 ≤ length out.now }
     ensures { result ≤ 4160 }
 {
-    let mut n = CHUNKS;
-    while 0 < n && is_marked(&out[(n - 1) * CHUNK..n * CHUNK]) {
-        n -= 1;
+    for n in (0..CHUNKS).rev() {
+        if !is_marked(&out[n * CHUNK..(n + 1) * CHUNK]) {
+            return (n + 1) * CHUNK;
+        }
     }
-    n * CHUNK
+    0
 }
 
 // Puts the reply to what should be a request, and says how many bytes it has. Those behind it are marks, as all were.
@@ -409,116 +347,97 @@ fn answer(request: &[u8], tables: &[u8], reply: &mut [u8]) -> usize
     requires { 4216 ≤ length reply.old }
     ensures { result ≤ 4216 }
 {
-    let told = call(request, tables, &mut reply[OUTPUT..]);
+    let told = call(request, tables, &mut reply[OUTPUT..]).unwrap_or(Told::first(NOT_CALLED));
     put_told(reply, told);
     let n = changed(&reply[OUTPUT..]);
     put_word(reply, SENT, n);
     OUTPUT + n
 }
 
-// Where the request that begins here ends; if there isn't a whole one, the end of the block.
-fn end_of(block: &[u8], at: usize) -> usize
-    requires { at < length block.now }
-    ensures lower_bound { at < result }
+// Where the request at the front of a block ends; if there isn't a whole one, the end of the block.
+fn end_of(block: &[u8]) -> usize
+    requires { 0 < length block.now }
+    ensures lower_bound { 0 < result }
     ensures upper_bound { result ≤ length block.now }
 {
-    let rest = block.len() - at;
-    if rest < LINE {
+    if block.len() < LINE {
         return block.len();
     }
-    let line = word(block, at + LINE_LENGTH);
-    if rest - LINE < line {
+    let line = word(block, LINE_LENGTH);
+    if block.len() - LINE < line {
         return block.len();
     }
-    at + LINE + line
+    LINE + line
 }
 
-// Writes so many bytes of replies, and makes them marks again.
-fn send(rt: &impl Print, replies: &mut [u8], n: usize) -> bool
-    requires { n ≤ length replies.old }
-{
-    let sent = rt.write_all(&replies[0..n]);
-    mark(&mut replies[0..n]);
-    sent.is_ok()
+// Writes replies, and makes them marks again.
+fn send(rt: &impl Print, replies: &mut [u8]) -> io::Result<()> {
+    rt.write_all(replies)?;
+    replies.fill(MARK);
+    Ok(())
 }
 
-// Where the next reply goes: behind the others, or if there is no room, in front once they are written. If that fails, it goes nowhere.
-fn place_for(rt: &impl Print, replies: &mut [u8], to: usize) -> usize
-    requires { to ≤ length replies.old }
+// Where the next reply goes: behind the others, or if there is no room, in front once they are written.
+fn place_for(rt: &impl Print, replies: &mut [u8], to: usize) -> io::Result<usize>
+    requires { (to ≤ length replies.old) × (4216 ≤ length replies.old) }
+    ensures { IfOk result (λ place. place + 4216 ≤ length replies.old) }
 {
     if REPLY <= replies.len() - to {
-        return to;
+        return Ok(to);
     }
-    if send(rt, replies, to) { 0 } else { NOWHERE }
+    send(rt, &mut replies[..to])?;
+    Ok(0)
 }
 
 // Answers each request of a block.
-fn answer_all(rt: &impl Print, block: &[u8], tables: &[u8], replies: &mut [u8]) -> bool
-    requires { 4216 ≤ length replies.old }
-{
-    let mut at = 0;
-    let mut to = 0;
-    while at < block.len() {
-        let place = place_for(rt, replies, to);
-        if replies.len() - REPLY < place {
-            return false;
-        }
-        let end = end_of(block, at);
-        let n = answer(&block[at..end], tables, &mut replies[place..place + REPLY]);
-        to = place + n;
-        at = end;
-    }
-    send(rt, replies, to)
-}
-
-// Takes a block and says how many bytes it has, none where there is no more. It is read whole before the first reply is written: so whoever sends
-// it whole before taking the first, and takes them all before the next, never waits in vain.
-fn read_block(input: &mut impl Read, block: &mut [u8]) -> usize
-    ensures { result ≤ length block.new }
-{
-    let mut head = [0u8; WORD];
-    if input.read_exact(&mut head).is_err() {
-        return 0;
-    }
-    let size = word(&head, 0);
-    if block.len() < size {
-        return 0;
-    }
-    if input.read_exact(&mut block[0..size]).is_err() {
-        return 0;
-    }
-    size
-}
-
-// Answers a block, and says whether to go on.
-fn answer_block(
+fn answer_all(
     rt: &impl Print,
-    input: &mut impl Read,
-    block: &mut [u8],
+    block: &[u8],
     tables: &[u8],
     replies: &mut [u8],
-) -> bool
+) -> io::Result<()>
     requires { 4216 ≤ length replies.old }
 {
-    let size = read_block(input, block);
-    if size == 0 {
-        return false;
+    let mut rest = block;
+    let mut to = 0;
+    while !rest.is_empty() {
+        let place = place_for(rt, replies, to)?;
+        let (request, behind) = rest.split_at(end_of(rest));
+        to = place + answer(request, tables, &mut replies[place..place + REPLY]);
+        rest = behind;
     }
-    answer_all(rt, &block[0..size], tables, replies)
+    send(rt, &mut replies[..to])
 }
 
-// A proved loop has to end, and nothing says that the input does: it counts its turns down from a number that no run uses up.
+// Takes a block, or None where there is no more, or one that is empty, too long or not whole. It is read whole before the first reply is written: so
+// whoever sends it whole before taking the first, and takes them all before the next, never waits in vain.
+fn read_block<'a>(input: &mut impl Read, block: &'a mut [u8]) -> Option<&'a [u8]> {
+    let mut head = [0u8; WORD];
+    input.read_exact(&mut head).ok()?;
+    let size = usize::from_le_bytes(head);
+    if size == 0 {
+        return None;
+    }
+    let whole = block.get_mut(..size)?;
+    input.read_exact(whole).ok()?;
+    Some(whole)
+}
+
+// A proved loop has to end, and nothing says that the input does: there are as many turns as no run uses up.
 fn main(rt: HostRuntime) {
     let mut input = rt.stdin();
-    let mut tables = [0u8; BLOCK];
-    let mut block = [0u8; BLOCK];
+    let mut tables_space = [0u8; BLOCK];
+    let mut space = [0u8; BLOCK];
     let mut replies = [MARK; REPLIES];
-    let n = read_block(&mut input, &mut tables);
-    if n == 0 {
+    let Some(tables) = read_block(&mut input, &mut tables_space) else {
         return;
-    }
-    let mut turns = u64::MAX;
-    while 0 < turns && answer_block(&rt, &mut input, &mut block, &tables[0..n], &mut replies) {
-        turns -= 1;
+    };
+    for _ in 0..u64::MAX {
+        let Some(block) = read_block(&mut input, &mut space) else {
+            return;
+        };
+        if answer_all(&rt, block, tables, &mut replies).is_err() {
+            return;
+        }
     }
 }

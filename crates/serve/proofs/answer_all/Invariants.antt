@@ -1,12 +1,10 @@
--- `serve::answer_all` is safe and ends: replies keep their length, and each request ends behind its start.
+-- `serve::answer_all` is safe and ends: each turn puts one reply, behind the ones before it or at the front, and goes on behind a request.
 -- Assumes nothing.
-use Prim.Native.Nat.{◌-◌, ◌≤◌}
-use mathlib.Core.Path.{◌≡◌}
-use lib.ListN.{length}
+use Rattle.std.proofs.Common.{◌≡◌, ◌≤◌, length}
 use Rattle.serve.proofs.answer_all.Given as goal
 
-abbrev pub invariant-loop-at : goal.invariant-loop-at
-invariant-loop-at g l = (length l.replies ≡ length l.initial.replies) × (l.to ≤ length l.initial.replies)
+abbrev pub invariant-loop-rest : goal.invariant-loop-rest
+invariant-loop-rest g l = (length l.replies ≡ length l.initial.replies) × (l.to ≤ length l.replies)
 
-abbrev pub decreases-loop-at : goal.decreases-loop-at
-decreases-loop-at g l = length l.block - l.at
+abbrev pub decreases-loop-rest : goal.decreases-loop-rest
+decreases-loop-rest g l = length l.rest
