@@ -13,21 +13,14 @@ pub fn atom_rows(atom: Atom) -> Rows
     let position = atom.position;
     let places = atom.places;
     let coordinates = places.position;
-    let name = basics.name;
-    let alternate = basics.alternate;
-    let residue = basics.residue;
-    let chain = basics.chain;
-    let insertion = basics.insertion;
-    let segment = basics.segment;
-    let element = basics.element;
-    let list = [
+    Rows::of([
         Row(Basics::SERIAL.start, Value::Unsigned(basics.serial)),
-        Row(Basics::NAME.start, Value::Words(name)),
-        Row(Basics::ALTERNATE, Value::One(alternate)),
-        Row(Basics::RESIDUE.start, Value::Words(residue)),
-        Row(Basics::CHAIN, Value::One(chain)),
+        Row(Basics::NAME.start, Value::Words(basics.name)),
+        Row(Basics::ALTERNATE, Value::One(basics.alternate)),
+        Row(Basics::RESIDUE.start, Value::Words(basics.residue)),
+        Row(Basics::CHAIN, Value::One(basics.chain)),
         Row(Basics::NUMBER.start, Value::Signed(basics.number)),
-        Row(Basics::INSERTION, Value::One(insertion)),
+        Row(Basics::INSERTION, Value::One(basics.insertion)),
         Row(Position::X.start, Value::Real(position.x, coordinates.x)),
         Row(Position::Y.start, Value::Real(position.y, coordinates.y)),
         Row(Position::Z.start, Value::Real(position.z, coordinates.z)),
@@ -39,12 +32,10 @@ pub fn atom_rows(atom: Atom) -> Rows
             Atom::BFACTOR.start,
             Value::Real(atom.bfactor, places.bfactor),
         ),
-        Row(Basics::SEGMENT.start, Value::Words(segment)),
-        Row(Basics::ELEMENT.start, Value::Words(element)),
+        Row(Basics::SEGMENT.start, Value::Words(basics.segment)),
+        Row(Basics::ELEMENT.start, Value::Words(basics.element)),
         Row(Basics::CHARGE.start, Value::Signed(basics.charge)),
-        Row::NONE,
-    ];
-    Rows { list }
+    ])
 }
 
 pub fn anisou_rows(anisou: Anisou) -> Rows
@@ -52,30 +43,22 @@ pub fn anisou_rows(anisou: Anisou) -> Rows
 {
     let basics = anisou.basics;
     let factors = anisou.factors;
-    let name = basics.name;
-    let alternate = basics.alternate;
-    let residue = basics.residue;
-    let chain = basics.chain;
-    let insertion = basics.insertion;
-    let segment = basics.segment;
-    let element = basics.element;
-    let list = [
+    Rows::of([
         Row(Basics::SERIAL.start, Value::Unsigned(basics.serial)),
-        Row(Basics::NAME.start, Value::Words(name)),
-        Row(Basics::ALTERNATE, Value::One(alternate)),
-        Row(Basics::RESIDUE.start, Value::Words(residue)),
-        Row(Basics::CHAIN, Value::One(chain)),
+        Row(Basics::NAME.start, Value::Words(basics.name)),
+        Row(Basics::ALTERNATE, Value::One(basics.alternate)),
+        Row(Basics::RESIDUE.start, Value::Words(basics.residue)),
+        Row(Basics::CHAIN, Value::One(basics.chain)),
         Row(Basics::NUMBER.start, Value::Signed(basics.number)),
-        Row(Basics::INSERTION, Value::One(insertion)),
+        Row(Basics::INSERTION, Value::One(basics.insertion)),
         Row(Factors::U11.start, Value::Factor(factors.u11)),
         Row(Factors::U22.start, Value::Factor(factors.u22)),
         Row(Factors::U33.start, Value::Factor(factors.u33)),
         Row(Factors::U12.start, Value::Factor(factors.u12)),
         Row(Factors::U13.start, Value::Factor(factors.u13)),
         Row(Factors::U23.start, Value::Factor(factors.u23)),
-        Row(Basics::SEGMENT.start, Value::Words(segment)),
-        Row(Basics::ELEMENT.start, Value::Words(element)),
+        Row(Basics::SEGMENT.start, Value::Words(basics.segment)),
+        Row(Basics::ELEMENT.start, Value::Words(basics.element)),
         Row(Basics::CHARGE.start, Value::Signed(basics.charge)),
-    ];
-    Rows { list }
+    ])
 }
