@@ -11,7 +11,7 @@ pub fn crystal_rows(crystal: Crystal) -> Rows
 {
     let cell = crystal.cell;
     let places = crystal.places;
-    Rows::of([
+    Rows::of(&[
         Row(Cell::A.start, Value::Real(cell.a, places.a)),
         Row(Cell::B.start, Value::Real(cell.b, places.b)),
         Row(Cell::C.start, Value::Real(cell.c, places.c)),

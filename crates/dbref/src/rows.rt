@@ -26,7 +26,7 @@ pub fn dbref_rows(dbref: Dbref) -> Rows
         Dbref::TARGET,
         dbref.target,
     );
-    Rows::of([
+    Rows::of(&[
         Row(Dbref::CODE.start, Value::Words(dbref.code)),
         Row(Dbref::CHAIN.start, Value::Words(dbref.chain)),
         begin,
@@ -51,7 +51,7 @@ pub fn dbref1_rows(dbref1: Dbref1) -> Rows
         ..Dbref::SEGMENT
     };
     let [begin, opening, end, closing] = segment_rows(at, dbref1.segment);
-    Rows::of([
+    Rows::of(&[
         Row(Dbref::CODE.start, Value::Words(dbref1.code)),
         Row(Dbref::CHAIN.start, Value::Words(dbref1.chain)),
         begin,
@@ -66,7 +66,7 @@ pub fn dbref1_rows(dbref1: Dbref1) -> Rows
 pub fn dbref2_rows(dbref2: Dbref2) -> Rows
     ensures { result ≡ rows_of (dbref2_fields dbref2) }
 {
-    Rows::of([
+    Rows::of(&[
         Row(Dbref::CODE.start, Value::Words(dbref2.code)),
         Row(Dbref::CHAIN.start, Value::Words(dbref2.chain)),
         Row(Dbref2::ACCESSION.start, Value::Words(dbref2.accession)),

@@ -9,7 +9,7 @@ use row::{Row, Rows, Value};
 pub fn header_rows(header: Header) -> Rows
     ensures { result ≡ rows_of (header_fields header) }
 {
-    Rows::of([
+    Rows::of(&[
         Row(
             Header::CLASSIFICATION.start,
             Value::Words(header.classification),

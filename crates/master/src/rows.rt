@@ -9,7 +9,7 @@ use row::{Row, Rows, Value};
 pub fn master_rows(master: Master) -> Rows
     ensures { result ≡ rows_of (master_fields master) }
 {
-    Rows::of([
+    Rows::of(&[
         Row(Master::REMARK.start, Value::Unsigned(master.remark)),
         Row(Master::EMPTY.start, Value::Unsigned(master.empty)),
         Row(Master::HET.start, Value::Unsigned(master.het)),

@@ -10,5 +10,5 @@ pub fn model_rows(model: Model) -> Rows
     ensures { result ≡ rows_of (model_fields model) }
 {
     let column = Model::column(model.mode);
-    Rows::of([Row(column, Value::Unsigned(model.number))])
+    Rows::of(&[Row(column, Value::Unsigned(model.number))])
 }

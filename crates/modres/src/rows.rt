@@ -9,7 +9,7 @@ use row::{Row, Rows, Value};
 pub fn modres_rows(modres: Modres) -> Rows
     ensures { result ≡ rows_of (modres_fields modres) }
 {
-    Rows::of([
+    Rows::of(&[
         Row(Modres::CODE.start, Value::Words(modres.code)),
         Row(Modres::RESIDUE.start, Value::Words(modres.residue)),
         Row(Modres::CHAIN, Value::One(modres.chain)),

@@ -9,7 +9,7 @@ use row::{Row, Rows, Value};
 pub fn remark_rows(remark: Remark) -> Rows
     ensures { result ≡ rows_of (remark_fields remark) }
 {
-    Rows::of([
+    Rows::of(&[
         Row(Remark::NUMBER.start, Value::Unsigned(remark.number)),
         Row(Remark::TEXT, Value::Words(remark.text)),
     ])

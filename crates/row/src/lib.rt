@@ -41,11 +41,11 @@ impl Rows {
     };
 
     // The rows given, and behind them those that show nothing. Rows behind the sixteenth are left out.
-    pub fn of<const N: usize>(rows: [Row; N]) -> Rows
-        ensures { result ≡ rows_of rows.entry }
+    pub fn of(rows: &[Row]) -> Rows
+        ensures { result ≡ rows_of rows.now }
     {
         let mut list = [Row::NONE; 16];
-        let shown = N.min(16);
+        let shown = rows.len().min(16);
         list[..shown].copy_from_slice(&rows[..shown]);
         Rows { list }
     }

@@ -12,7 +12,7 @@ pub fn seqadv_rows(seqadv: Seqadv) -> Rows
     let target = seqadv.target;
     let name = target.map_or(Value::Nothing, |target| Value::Words(target.name));
     let number = target.map_or(Value::Nothing, |target| Value::Signed(target.number));
-    Rows::of([
+    Rows::of(&[
         Row(Seqadv::CODE.start, Value::Words(seqadv.code)),
         Row(Seqadv::RESIDUE.start, Value::Words(seqadv.residue)),
         Row(Seqadv::CHAIN.start, Value::Words(seqadv.chain)),

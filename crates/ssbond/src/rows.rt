@@ -30,7 +30,7 @@ pub fn ssbond_rows(ssbond: SSBond) -> Rows
     let operator = tail.map_or(Value::Nothing, |bond| Value::Words(bond.first));
     let other_operator = tail.map_or(Value::Nothing, |bond| Value::Words(bond.second));
     let length = tail.map_or(Value::Nothing, |bond| Value::Real(bond.length, bond.places));
-    Rows::of([
+    Rows::of(&[
         name,
         chain,
         number,

@@ -21,14 +21,14 @@ fn value_rows(values: Transformation, places: RowPlaces) -> [Row; 4]
 pub fn numbered_rows(numbered: NumberedRow) -> Rows
     ensures { result ≡ rows_of (numbered_fields numbered) }
 {
-    Rows::of(value_rows(numbered.values, numbered.places))
+    Rows::of(&value_rows(numbered.values, numbered.places))
 }
 
 pub fn mtrix_rows(mtrix: MtriX) -> Rows
     ensures { result ≡ rows_of (mtrix_fields mtrix) }
 {
     let [a, b, c, d] = value_rows(mtrix.values, mtrix.places);
-    Rows::of([
+    Rows::of(&[
         Row(MtriX::SERIAL.start, Value::Unsigned(mtrix.serial)),
         a,
         b,
