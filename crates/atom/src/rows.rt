@@ -13,7 +13,7 @@ pub fn atom_rows(atom: Atom) -> Rows
     let position = atom.position;
     let places = atom.places;
     let coordinates = places.position;
-    Rows::of([
+    Rows::of(&[
         Row(Basics::SERIAL.start, Value::Unsigned(basics.serial)),
         Row(Basics::NAME.start, Value::Words(basics.name)),
         Row(Basics::ALTERNATE, Value::One(basics.alternate)),
@@ -43,7 +43,7 @@ pub fn anisou_rows(anisou: Anisou) -> Rows
 {
     let basics = anisou.basics;
     let factors = anisou.factors;
-    Rows::of([
+    Rows::of(&[
         Row(Basics::SERIAL.start, Value::Unsigned(basics.serial)),
         Row(Basics::NAME.start, Value::Words(basics.name)),
         Row(Basics::ALTERNATE, Value::One(basics.alternate)),
