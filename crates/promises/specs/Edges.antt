@@ -1,6 +1,6 @@
 -- "P1 to P12 are one list of cases with a single theorem about it": a case is a line with claims of what is answered, and each claim is found in
 -- the answer where it looks. A real is claimed by its bits, as a listing shows it.
-use Rattle.std.specs.Prelude.{ℕ, ◌-◌, ◌≡◌, Bool, true, false, List, [], ◌∷◌, ◌++◌, map, length, replicate, pos, neg_ℤ, Float}
+use Rattle.std.specs.Prelude.{ℕ, ◌-◌, ◌≡◌, Bool, true, false, List, [], ◌∷◌, ◌++◌, map, length, replicate, pos, neg_ℤ, Float, Ok}
 use Prim.Native.String.{String}
 use Rattle.std.specs.Float.{binary64}
 use Rattle.std.specs.Float.Ieee.{of_bits}
@@ -12,7 +12,6 @@ use Rattle.line.specs.Options.{plain}
 use Rattle.line.specs.declared.options.Mode.{Mode}
 use Rattle.line.specs.declared.options.Mode.TheVariants.{Crate, WwPdb}
 use Rattle.line.specs.declared.options.Options.{Options}
-use Rattle.lexitem.specs.declared.answer.Outcome.TheVariants.{Accepted}
 use Rattle.line.specs.declared.fault.Fault.{Fault}
 use Rattle.line.specs.declared.fault.FaultKind.{FaultKind}
 use Rattle.line.specs.declared.fault.FaultKind.TheVariants.{Short, Wrong, NoDigit, NoSign, Unknown}
@@ -59,8 +58,8 @@ pub data Claim : Type 1 where
 
 -- the answer has at a claim's place what the claim says
 abbrev pub Found : Answer → Claim → Type 0
-Found a (is x) = a.outcome ≡ Accepted x
-Found a (field {A} make get value) = (x : A) × (a.outcome ≡ Accepted (make x)) × (get x ≡ value)
+Found a (is x) = a.outcome ≡ Ok x
+Found a (field {A} make get value) = (x : A) × (a.outcome ≡ Ok (make x)) × (get x ≡ value)
 Found a (faults fs) = map told_by (faults_in (told a.faults)) ≡ fs
 Found a (count n) = a.faults.count ≡ n
 Found a (refused number place length) = numbers_of a.outcome ≡ (number, place, length)

@@ -10,6 +10,7 @@ use Prim.Native.Nat.{◌≤◌}
 use mathlib.Core.Path.{◌≡◌, refl}
 use mathlib.Core.Bool.{Bool, false}
 use lib.ListN.{length, replicate}
+use Rattle.std.specs.Prelude.{Ok}
 use Rattle.line.specs.Bytes.{bytes}
 use Rattle.line.specs.Columns.{part_of}
 use Rattle.line.specs.Faults.{no_faults, noted}
@@ -18,7 +19,6 @@ use Rattle.field.specs.Number.{number_faults}
 use Rattle.field.specs.Text.{text_faults, character_faults}
 use Rattle.field.specs.Charge.{charged, charge_faults}
 use Rattle.kind.specs.Kind.{kind_of}
-use Rattle.lexitem.specs.declared.answer.Outcome.TheVariants.{Accepted}
 use Rattle.lexitem.specs.declared.item.LexItem.{LexItem}
 use Rattle.lexitem.specs.Describe.{faults_of}
 use Rattle.lexitem.specs.Fault.{stamped, stamped_as, told, faults_in}
@@ -43,7 +43,7 @@ pub fifteen_given : (mode : Mode) (exponents : Bool) → (lexed (seven mode expo
 unfolding lexed plain kind_of faults_of stamped_as no_faults noted number_faults text_faults character_faults charge_faults charged part_of
 fifteen_given mode exponents = refl
 
-module _ (i : Input) (x : LexItem) (e : (lexed i).outcome ≡ Accepted x) where
+module _ (i : Input) (x : LexItem) (e : (lexed i).outcome ≡ Ok x) where
   pub faults-listed : faults_in (told (lexed i).faults) ≡ faults_of (kind i) (given i)
   faults-listed = accepted-faults i x e
 

@@ -12,12 +12,12 @@ use mathlib.Core.List.{List, [], ◌∷◌, Memᴰ}
 use native.Mathlib.Omega.{arith}
 use borrow.Author.Tests.{ltb-true}
 use lib.Dec.{ltb}
+use Rattle.std.specs.Prelude.{Ok}
 use Rattle.number.proofs.Laws.Choice.{and_left, and_right}
 use Rattle.field.specs.Table.{Entry}
 use Rattle.line.specs.Given.{Given}
 use Rattle.lexitem.specs.Describe.{fields_by, fields_of, kind_of_item}
 use Rattle.lexitem.specs.Shown.{shown, shown_by, insert, sorted, ascending, keep, held}
-use Rattle.lexitem.specs.declared.answer.Outcome.TheVariants.{Accepted}
 use Rattle.lexitem.specs.declared.item.LexItem.{LexItem}
 use Rattle.lexitem.proofs.Laws.Kinds.{fields-shown}
 use Rattle.lexer.specs.Lexed.{lexed}
@@ -31,13 +31,13 @@ use Rattle.row.specs.declared.Value.TheVariants.{Unsigned, Signed, Real, Factor,
 use Rattle.promises.specs.Reals.{table_in}
 use Rattle.promises.proofs.Laws.Kinds.{item-kind}
 
-pub record-shown : (n : Input) (item : LexItem) → (lexed n).outcome ≡ Accepted item
+pub record-shown : (n : Input) (item : LexItem) → (lexed n).outcome ≡ Ok item
     → (held (fields_of item) ≡ held (sorted (shown (refusals.given n) (fields_by (refusals.kind n) (refusals.given n))))) × (ascending (fields_of item) ≡ true)
 record-shown n item accepted =
     let shows = fields-shown (refusals.given n) (refusals.kind n) in
     rw (accepted-item n item accepted) (sym shows.0, shows.1)
 
-pub record-kind : (n : Input) (item : LexItem) → (lexed n).outcome ≡ Accepted item → kind_of_item item ≡ refusals.kind n
+pub record-kind : (n : Input) (item : LexItem) → (lexed n).outcome ≡ Ok item → kind_of_item item ≡ refusals.kind n
 record-kind n item accepted = rw (accepted-item n item accepted) (item-kind (refusals.kind n) (refusals.given n))
 
 -- ---- a row among others
@@ -130,7 +130,7 @@ alone (y ∷ rows) h q r m k e = go (mathlib.Core.List.Memᴰ.cases_cons m) (mat
     go (inr a) (inr b) on = on a b e
 
 -- ---- of a record
-module _ (n : Input) (item : LexItem) (accepted : (lexed n).outcome ≡ Accepted item) (e : Entry) (m : Memᴰ e (table_in n)) (column : ℕ) (v : Value)
+module _ (n : Input) (item : LexItem) (accepted : (lexed n).outcome ≡ Ok item) (e : Entry) (m : Memᴰ e (table_in n)) (column : ℕ) (v : Value)
     (shows : shown_by (refusals.given n) e ≡ column is v ∷ []) (keeps : (rest : List Row) → keep v (column is v) rest ≡ column is v ∷ rest) where
   pub row_there : Memᴰ (column is v) (fields_of item)
   row_there =

@@ -3,11 +3,11 @@
 --     scale-near, origx-near, mtrix-near    so what a row of one line makes of the position of another is near the exact sum
 -- Assumes nothing.
 use mathlib.Core.Path.{◌≡◌}
+use Rattle.std.specs.Prelude.{Ok}
 use Rattle.line.specs.Given.{Given}
 use Rattle.kind.specs.declared.Kind.{Kind}
 use Rattle.kind.specs.declared.Kind.TheVariants.{Empty, Header, Remark, Atom, Hetatm, Anisou, Cryst1, Scale, Origx, Mtrix, Model, Master, Dbref, Dbref1, Dbref2, Seqres, Seqadv, Modres, Ssbond, Endmdl, Ter, End}
 use Rattle.lexitem.specs.Describe.{item_of}
-use Rattle.lexitem.specs.declared.answer.Outcome.TheVariants.{Accepted}
 use Rattle.lexitem.specs.declared.item.LexItem.{LexItem}
 use Rattle.lexitem.specs.declared.item.LexItem.TheVariants as item
 use Rattle.atom.specs.declared.record.Atom.{Atom as AtomRecord}
@@ -47,19 +47,19 @@ kind-held Endmdl g = tt
 kind-held Ter g = tt
 kind-held End g = tt
 
-pub accepted-held : (i : Input) (x : LexItem) → (lexed i).outcome ≡ Accepted x → HeldIn x
+pub accepted-held : (i : Input) (x : LexItem) → (lexed i).outcome ≡ Ok x → HeldIn x
 accepted-held i x accepts = rw (accepted-item i x accepts) (kind-held (kind i) (given i))
 
 -- ---- the bound, for lines
-module _ (i j : Input) (a : AtomRecord) (p : (lexed i).outcome ≡ Accepted (item.Atom a)) where
-  pub scale-near : (r : ScaleRecord) (q : (lexed j).outcome ≡ Accepted (item.Scale r))
+module _ (i j : Input) (a : AtomRecord) (p : (lexed i).outcome ≡ Ok (item.Atom a)) where
+  pub scale-near : (r : ScaleRecord) (q : (lexed j).outcome ≡ Ok (item.Scale r))
       → NearExact (coordinate r.values a.position) (accepted-held j (item.Scale r) q) (accepted-held i (item.Atom a) p)
   scale-near r q = coordinate-near r.values a.position (accepted-held j (item.Scale r) q) (accepted-held i (item.Atom a) p)
 
-  pub origx-near : (r : OrigX) (q : (lexed j).outcome ≡ Accepted (item.OrigX r))
+  pub origx-near : (r : OrigX) (q : (lexed j).outcome ≡ Ok (item.OrigX r))
       → NearExact (coordinate r.values a.position) (accepted-held j (item.OrigX r) q) (accepted-held i (item.Atom a) p)
   origx-near r q = coordinate-near r.values a.position (accepted-held j (item.OrigX r) q) (accepted-held i (item.Atom a) p)
 
-  pub mtrix-near : (r : MtriX) (q : (lexed j).outcome ≡ Accepted (item.MtriX r))
+  pub mtrix-near : (r : MtriX) (q : (lexed j).outcome ≡ Ok (item.MtriX r))
       → NearExact (coordinate r.values a.position) (accepted-held j (item.MtriX r) q) (accepted-held i (item.Atom a) p)
   mtrix-near r q = coordinate-near r.values a.position (accepted-held j (item.MtriX r) q) (accepted-held i (item.Atom a) p)

@@ -21,7 +21,7 @@ use lib.IntN.{nat_abs}
 use lib.Ieee.{Float, binary64, to_bits, of_bits}
 use lib.Ieee.Scale.{finite}
 use lib.Ieee.Bits.{of_bits-to_bits}
-use Rattle.std.specs.Prelude.{ℤ, Option, Some, None, option_map, is_some, unwrap_or}
+use Rattle.std.specs.Prelude.{ℤ, Option, Some, None, option_map, is_some, unwrap_or, Ok}
 use Rattle.number.specs.Whole.{signed_of}
 use Rattle.number.specs.Decimal.{plain, decimal_of}
 use Rattle.number.specs.Wide.{wide, without_mark}
@@ -46,7 +46,6 @@ use Rattle.row.specs.Rows.{◌is◌}
 use Rattle.row.specs.declared.Value.{Value}
 use Rattle.row.specs.declared.Value.TheVariants.{Real, Factor}
 use Rattle.lexitem.specs.Fault.{told as toldFaults, faults_in}
-use Rattle.lexitem.specs.declared.answer.Outcome.TheVariants.{Accepted}
 use Rattle.lexitem.specs.declared.item.LexItem.{LexItem}
 use Rattle.lexitem.specs.Describe.{describe, fields_of, faults_of}
 use Rattle.lexer.specs.Refusals.{Input, kind, given}
@@ -87,7 +86,7 @@ some-value None = refl
 abbrev places_in : Option RealRead → ℕ
 places_in r = (unwrap_or r (real zero_real 0)).places
 
-module _ (i : Input) (item : LexItem) (yes : (lexed i).outcome ≡ Accepted item) where
+module _ (i : Input) (item : LexItem) (yes : (lexed i).outcome ≡ Ok item) where
   abbrev faults : List Fault
   faults = faults_in (toldFaults (lexed i).faults)
 
@@ -200,7 +199,7 @@ module _ (i : Input) (item : LexItem) (yes : (lexed i).outcome ≡ Accepted item
         go (Some w) e = (with-said (on_in i) (part_of i.line at) e).short
         go None e = omega arith
 
-pub demand_3_tells : (i j : Input) (one other : LexItem) → (lexed i).outcome ≡ Accepted one → (lexed j).outcome ≡ Accepted other
+pub demand_3_tells : (i j : Input) (one other : LexItem) → (lexed i).outcome ≡ Ok one → (lexed j).outcome ≡ Ok other
     → (f g : RealField) → RealIn i one f → RealIn j other g
     → (s t : Bool) (m n p q : ℕ) (lower less : Bool) (x y : ℕ) → f.written ≡ Some (wide (plain s m p) lower x) → g.written ≡ Some (wide (plain t n q) less y)
     → to_bits binary64 f.double ≡ to_bits binary64 g.double

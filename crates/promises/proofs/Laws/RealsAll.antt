@@ -10,6 +10,7 @@ use mathlib.Core.List.{List, [], ◌∷◌, Memᴰ}
 use native.Mathlib.Omega.{arith}
 use lib.Dec.{ltb}
 use lib.Ieee.{Float}
+use Rattle.std.specs.Prelude.{Ok}
 use Rattle.number.specs.Whole.{signed_of}
 use Rattle.real.specs.Wide.{said_with, scale_with}
 use Rattle.line.specs.Columns.{part_of}
@@ -25,7 +26,6 @@ use Rattle.row.specs.declared.Value.{Value}
 use Rattle.row.specs.declared.Value.TheVariants.{Unsigned, Signed, Real, Factor, Words, One, Flag, Nothing}
 use Rattle.lexitem.specs.Describe.{fields_of}
 use Rattle.lexitem.specs.Shown.{shown, shown_by, insert, sorted, keep, held}
-use Rattle.lexitem.specs.declared.answer.Outcome.TheVariants.{Accepted}
 use Rattle.lexitem.specs.declared.item.LexItem.{LexItem}
 use Rattle.lexer.specs.Lexed.{lexed}
 use Rattle.lexer.specs.Refusals as refusals
@@ -117,7 +117,7 @@ module _ (row : Row) where
       ⊎_elim (λ same. mathlib.Core.List.Memᴰ.head same) (λ later. mathlib.Core.List.Memᴰ.tail (sorted_in rows later)) (mathlib.Core.List.Memᴰ.cases_cons (insert_in y (sorted rows) m))
 
 -- ---- of a record
-module _ (n : Input) (item : LexItem) (accepted : (lexed n).outcome ≡ Accepted item) where
+module _ (n : Input) (item : LexItem) (accepted : (lexed n).outcome ≡ Ok item) where
   pub decimals-shown : (at : Columns) (default : Float) → Memᴰ (r at default) (table_in n)
       → (y : Float) × (places : ℕ) × Memᴰ (at.start is Real y places) (fields_of item)
   decimals-shown at default m =

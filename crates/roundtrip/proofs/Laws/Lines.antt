@@ -14,6 +14,7 @@ use mathlib.Core.Bool.{Bool, true, false}
 use mathlib.Core.List.{List, [], ◌∷◌}
 use lib.ListN.{length, take}
 use lib.Dec.{ltb}
+use Rattle.std.specs.Prelude.{Ok}
 use Rattle.line.specs.Faults.{no_faults}
 use Rattle.lexitem.specs.Fault.{stamped_as}
 use Rattle.line.specs.declared.options.Mode.{Mode}
@@ -22,7 +23,6 @@ use Rattle.kind.specs.Kind.{kind_of, kind_by, names_by, row_place}
 use Rattle.kind.specs.Name.{kept_by_atoms}
 use Rattle.kind.specs.declared.Kind.{Kind}
 use Rattle.lexitem.specs.Describe.{bound_of, item_of, faults_of}
-use Rattle.lexitem.specs.declared.answer.Outcome.TheVariants.{Accepted}
 use Rattle.lexer.specs.Refusals.{Input, kind, given, plain, header_cut, remark_long, missing}
 use Rattle.lexer.specs.Lexed.{lexed}
 use Rattle.cell.specs.Cell.{fitting, texted}
@@ -152,7 +152,7 @@ written-asked end l n loose = record { header = refl; remark = refl; least = ref
 
 pub clear-accepted : (i : Input) (k : Kind) → kind i ≡ k → length i.line ≡ 80 → Low i.line → length i.remarks ≡ 1000
     → Asked k i.line i.options.loose → faults_of k (given i) ≡ []
-    → lexed i ≡ record { line = i.number; outcome = Accepted (item_of k (given i)); faults = stamped_as i.number k no_faults }
+    → lexed i ≡ record { line = i.number; outcome = Ok (item_of k (given i)); faults = stamped_as i.number k no_faults }
 unfolding lexed
 clear-accepted i k is wide low remarks asked none =
     rw (

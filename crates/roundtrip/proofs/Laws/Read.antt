@@ -11,6 +11,7 @@ use mathlib.Core.List.{List, []}
 use lib.ListN.{length}
 use lib.Dec.{ltb}
 use lib.Ieee.{Float}
+use Rattle.std.specs.Prelude.{Ok}
 use Rattle.line.specs.Faults.{no_faults}
 use Rattle.lexitem.specs.Fault.{stamped_as}
 use Rattle.line.specs.Given.{Given}
@@ -26,7 +27,6 @@ use Rattle.kind.specs.Name.{kept_by_atoms}
 use Rattle.kind.specs.declared.Kind.{Kind}
 use Rattle.kind.specs.declared.Kind.TheVariants as kinds
 use Rattle.lexitem.specs.Describe.{item_of, fields_of, faults_of}
-use Rattle.lexitem.specs.declared.answer.Outcome.TheVariants.{Accepted}
 use Rattle.lexer.specs.Refusals.{Input, given}
 use Rattle.lexer.specs.Lexed.{lexed}
 use Rattle.cell.specs.Text.{blanks}
@@ -176,7 +176,7 @@ comes end g h = (refl, refl)
 
 pub written_read : {k : Kind} {asked : List ℕ} {s : Sheet} → Writable k asked s → Fit s.cells → (i : Input) → i.line ≡ line_of s
     → length i.remarks ≡ 1000 → (i.options.atoms ≡ false) ⊎ (kept_by_atoms k ≡ true)
-    → (lexed i ≡ record { line = i.number; outcome = Accepted (item_of k (given i)); faults = stamped_as i.number k no_faults })
+    → (lexed i ≡ record { line = i.number; outcome = Ok (item_of k (given i)); faults = stamped_as i.number k no_faults })
     × (rows_shown (line_of s) (fields_of (item_of k (given i))) ≡ cells_shown s.cells)
 written_read {k} {s = s} w fit i e remarks kept =
     let h : Lined i.line s = rw e (written_lined w fit) in
