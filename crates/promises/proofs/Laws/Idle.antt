@@ -2,20 +2,20 @@
 --     exponents-idle    the whole answer
 -- Assumes nothing.
 use Prim.Native.Nat.{ℕ}
-use mathlib.Core.Path.{◌≡◌, refl, sym, ◌∙◌}
+use mathlib.Core.Path.{◌≡◌, refl, sym, ap, ◌∙◌}
 use mathlib.Core.Bool.{Bool, true, false}
 use mathlib.Core.List.{List, [], ◌∷◌}
-use Rattle.std.specs.Prelude.{Option, Some, None, is_none}
+use Rattle.std.specs.Prelude.{Option, Some, None, is_none, unwrap_or}
 use Rattle.number.specs.Wide.{marked_of}
 use Rattle.number.specs.declared.wide.Wide.{Wide}
 use Rattle.number.proofs.Laws.Choice.{and_left, and_right}
-use Rattle.real.specs.Real.{real_of}
+use Rattle.real.specs.Real.{real, real_of}
 use Rattle.real.specs.Wide.{wide_real, real_with}
 use Rattle.real.specs.declared.Real.{Real}
 use Rattle.real.proofs.Laws.WideReal.{off-is, on-is, marked-is}
 use Rattle.line.specs.Columns.{part_of}
 use Rattle.line.specs.Given.{Given}
-use Rattle.field.specs.Number.{real_at, places_at}
+use Rattle.field.specs.Number.{zero_real, real_at, places_at}
 use Rattle.field.specs.Table.{Entry, faults_by, table_faults}
 use Rattle.field.specs.Table.Entry.{u, i, r, t, c, c?, a, u-rest, x, t_within, t-rest, t-end, charge, known, given, unwritten, triples}
 use Rattle.ssbond.specs.Ssbond.{has_tail, ssbond_table, tail_of, tail_places}
@@ -69,7 +69,11 @@ module _ (l : List ℕ) (on : Bool) where
   unfolding real_at places_at
   entry_alike (u at) h = tt
   entry_alike (i at) h = tt
-  entry_alike (r at default) h = rw (said-idle (part_of l at) h on) (refl, refl)
+  entry_alike (r at default) h =
+      let same = said-idle (part_of l at) h on in (
+        ap (λ (read : Option Real). (unwrap_or read (real default 0)).value) same,
+        ap (λ (read : Option Real). (unwrap_or read (real zero_real 0)).places) same,
+      )
   entry_alike (t at) h = tt
   entry_alike (c at) h = tt
   entry_alike (c? at) h = tt

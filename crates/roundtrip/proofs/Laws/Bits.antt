@@ -94,7 +94,7 @@ module _ (q : ℕ) (x : Float) (from : From q x) where
           by_size true l =
               let fit = ltb-true (from.digits * 10 ^ (q - from.places)) (10 ^ 10) l in
               let back = written_back from.minus from.digits from.places q from.few from.less long fit in
-              let same : rounded s n ≡ rounded from.minus (from.digits * 10 ^ (q - from.places)) = cc rounds back in
+              let same : rounded s n ≡ rounded from.minus (from.digits * 10 ^ (q - from.places)) = let both = sym rounds ∙ back in cc in
               let sign : s ≡ from.minus = ap (λ (r : Rounded). r.minus) same in
               let number : n ≡ from.digits * 10 ^ (q - from.places) = ap (λ (r : Rounded). r.digits) same in
               rw (sign, number) (written_same from.minus from.digits from.places q from.few from.less long fit ∙ sym from.is)

@@ -13,16 +13,17 @@ use mathlib.Core.List.{List, [], ◌++◌}
 use lib.ListN.{length, drop}
 use lib.IntN.{ℤ}
 use lib.Ieee.{Float}
-use Rattle.std.specs.Prelude.{Option, Some, None}
+use Rattle.std.specs.Prelude.{Option, Some, None, unwrap_or}
 use Rattle.page.specs.Numerals.{decimal, signed_decimal}
 use Rattle.line.specs.Columns.{part_of, rest_of}
 use Rattle.line.specs.declared.columns.Columns.{Columns}
 use Rattle.number.specs.Trim.{trimmed}
 use Rattle.number.specs.Whole.{unsigned_of, signed_of, with_sign}
+use Rattle.real.specs.declared.Real.{Real as RealRead}
 use Rattle.real.specs.Real.{real as readReal, real_of, ten_thousandths_of}
 use Rattle.real.specs.Wide.{real_with}
 use Rattle.real.proofs.Laws.WideReal.{on-is}
-use Rattle.field.specs.Number.{unsigned_at, unsigned_faults, signed_at, signed_faults, real_at, real_faults, places_at, factor_at, factor_faults, unsigned_from, unsigned_from_faults, number_faults}
+use Rattle.field.specs.Number.{zero_real, unsigned_at, unsigned_faults, signed_at, signed_faults, real_at, real_faults, places_at, factor_at, factor_faults, unsigned_from, unsigned_from_faults, number_faults}
 use Rattle.cell.specs.Cell.{fitting, texted, real_fits, real_bytes, factor_fits, factor_bytes}
 use Rattle.cell.specs.Places.{places_of}
 use Rattle.cell.specs.Text.{blanks}
@@ -83,8 +84,11 @@ module _ {l : List ℕ} {at : Columns} where
   real_in on {q} {x} default h few =
       let plain : real_of (part_of l at) ≡ Some (readReal (double_back q (places_of q x)) q) =
       ap real_of h.part ∙ real-said (at.end - at.start) q x h.fits few in
-      let said : real_with on (part_of l at) ≡ Some (readReal (double_back q (places_of q x)) q) = on-is (part_of l at) plain on in
-      (rw said refl, rw (le-ltb (length l) at.end h.reach, said) refl, rw said refl)
+      let said : real_with on (part_of l at) ≡ Some (readReal (double_back q (places_of q x)) q) = on-is (part_of l at) plain on in (
+        ap (λ (r : Option RealRead). (unwrap_or r (readReal default 0)).value) said,
+        rw (le-ltb (length l) at.end h.reach, said) refl,
+        ap (λ (r : Option RealRead). (unwrap_or r (readReal zero_real 0)).places) said,
+      )
 
   pub factor_in : {x : Float} → Held l (at holds factor x) → at.end - at.start ≤ 7
       → (factor_at l at ≡ factor_back (places_of 4 x)) × (factor_faults l at ≡ [])

@@ -83,8 +83,10 @@ module _ (on : Bool) (old new : List ℕ) (at : Columns) (default : Float)
   own-said s m p e =
       let limits = decimal_limits (part_of old at) e in
       let w = at.end - at.start in
-      let fits : real_fits w p (inPlaces p (double_of s m p)) ≡ true = rw (plain-is old e) at h.fits in
-      let part : part_of new at ≡ real_bytes w p (inPlaces p (double_of s m p)) = rw (plain-is old e) at h.part in
+      let value : real_at on old at default ≡ double_of s m p = ap (λ (r : Option RealRead). (unwrap_or r (readReal default 0)).value) (plain-is old e) in
+      let places : places_at on old at ≡ p = ap (λ (r : Option RealRead). (unwrap_or r (readReal zero_real 0)).places) (plain-is old e) in
+      let fits : real_fits w p (inPlaces p (double_of s m p)) ≡ true = rw (value, places) at h.fits in
+      let part : part_of new at ≡ real_bytes w p (inPlaces p (double_of s m p)) = rw (value, places) at h.part in
       let (short, said) = cell-own s m p w limits.0 limits.1 fits few in
       (short, ap decimal_of part ∙ said)
 

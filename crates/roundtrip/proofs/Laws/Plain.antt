@@ -16,7 +16,6 @@ use Rattle.page.proofs.Laws.Lists.{Between}
 use Rattle.number.specs.Whole.{with_sign}
 use Rattle.number.proofs.Laws.Choice.{and_left, and_right}
 use Rattle.lexer.specs.Refusals.{plain}
-use Rattle.number.specs.Decimal.{plain}
 use Rattle.cell.specs.Cell.{fitting, texted, real_bytes, factor_bytes}
 use Rattle.cell.specs.Places.{places_of}
 use Rattle.cell.specs.Text.{blanks, right, fixed}
