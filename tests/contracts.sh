@@ -6,8 +6,8 @@
 set -eu
 cd "$(dirname "${BASH_SOURCE[0]}")/.."
 
-# What reads or writes the outside world: no contract can say what is there.
-excepted="stream::list_input stream::list_from stream::input::read_some stream::reason::fail intake::read_full"
+# What reads or writes the outside world: no contract can say what is there. And what answers as a closure does that is handed to it.
+excepted="stream::list_input stream::list_from stream::input::read_some stream::reason::fail intake::read_full line::fault::Got::map"
 
 # The public functions of a file, one a line: the type that it is a method of, if any, with a dot behind it, the name, and what it answers.
 functions() {
@@ -31,11 +31,14 @@ is_public() {
     [ "$module" = lib ] || grep -q "^pub mod $module;\|^pub use crate::$module::$name;" "$library"
 }
 
-# theorem FILE PATH ANSWER: whether the file states it of the function's own contract, which the checker makes of its clauses.
+# theorem FILE PATH ANSWER: whether the file states it of the function's own contract, which the checker makes of its clauses. Of a function with a const
+# parameter it is stated for each number.
 theorem() {
-    local file=$1 contract="its.$2.ended (λ M 𝓤. its.$2.clauses)" said
+    local file=$1 contract="its.$2.ended (λ M 𝓤. its.$2.clauses)" said each stated
     case $3 in '&'*) said="OneBy $contract (λ κs. (λ x. x.now))" ;; *) said="One $contract" ;; esac
-    grep -E '^pub [a-z0-9_-]+[-_]one : ' "$file" | sed 's/^[^:]* : //' | grep -qxF "$said"
+    each='(\([a-z]*\) : ℕ) → One (its\.'"$2"'\.ended (number \1)) (λ M 𝓤\. its\.'"$2"'\.clauses (number \1))'
+    stated=$(grep -E '^pub [a-z0-9_-]+[-_]one : ' "$file" | sed 's/^[^:]* : //')
+    grep -qxF "$said" <<< "$stated" || grep -qx "$each" <<< "$stated"
 }
 
 # What the words of a statement mean: the definitions of crate `single`, and the crate's own modules.

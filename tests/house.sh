@@ -19,7 +19,7 @@ families=$(sed -n 's/^lexitem: //p' crates.txt | tr ' ' '\n' | grep -vx 'single\
 used() {
     local known=" $(ls crates | tr '\n' ' ') $kit "
     {
-        if [ "$1" != lexitem ] && grep -qrwE 'LexItem|Answer|Outcome' "crates/$1/src"; then echo "$families"; fi
+        if [ "$1" != lexitem ] && grep -qrwE 'LexItem|Answer' "crates/$1/src"; then echo "$families"; fi
         if grep -qrw LineFaults "crates/$1/src"; then echo kind; fi
         if [ "$1" != audit ] && grep -qrw Watch "crates/$1/src"; then printf '%s\n' tally master; fi
         find "crates/$1" -name out -prune -o -name '*.rt' -exec grep -hoE '(^|[^:a-z_0-9])[a-z_0-9]+::' {} + | sed 's/:://; s/^[^a-z_0-9]//'
