@@ -47,7 +47,7 @@ use saltighedda::{
     saltighedda_list, saltighedda_list_length, saltighedda_list_place, saltighedda_list_refusal,
 };
 use sheet::Unwritten;
-use std::io::{self, Read};
+use std::io::Read;
 use writer::{write_as_read, write_record};
 
 // The most bytes of a block.
@@ -371,14 +371,14 @@ fn end_of(block: &[u8]) -> usize
 }
 
 // Writes replies, and makes them marks again.
-fn send(rt: &impl Print, replies: &mut [u8]) -> io::Result<()> {
+fn send(rt: &impl Print, replies: &mut [u8]) -> std::io::Result<()> {
     rt.write_all(replies)?;
     replies.fill(MARK);
     Ok(())
 }
 
 // Where the next reply goes: behind the others, or if there is no room, in front once they are written.
-fn place_for(rt: &impl Print, replies: &mut [u8], to: usize) -> io::Result<usize>
+fn place_for(rt: &impl Print, replies: &mut [u8], to: usize) -> std::io::Result<usize>
     requires { (to ≤ length replies.old) × (4216 ≤ length replies.old) }
     ensures { IfOk result (λ place. place + 4216 ≤ length replies.old) }
 {
@@ -395,7 +395,7 @@ fn answer_all(
     block: &[u8],
     tables: &[u8],
     replies: &mut [u8],
-) -> io::Result<()>
+) -> std::io::Result<()>
     requires { 4216 ≤ length replies.old }
 {
     let mut rest = block;
