@@ -53,6 +53,7 @@ fn six(line: &[u8]) -> u64
     u64::from_be_bytes([0, 0, line[0], line[1], line[2], line[3], line[4], line[5]])
 }
 
+// The names stand as numbers, since a match on byte strings, which is as quick, comes to its last arm in ninety ways, each with a proof by hand.
 fn named(key: u64) -> Kind
     ensures { result ≡ kind_by_key key specs.names }
 {

@@ -26,6 +26,7 @@ fn name_key(line: &[u8]) -> u64
     ])
 }
 
+// The names stand as numbers for the reason that `kind` has.
 fn numbered(key: u64) -> Option<usize>
     ensures { result ≡ specs.number_by_key key specs.names }
 {
