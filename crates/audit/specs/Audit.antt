@@ -1,16 +1,15 @@
 -- "Add a checker of a whole lent file against its MASTER record. Refusals, in this order: 10 no MASTER line (0, 0); 11 more than one (where the
 -- second starts, its length); 12 the MASTER line has a fault, is refused by the lexer or is six bytes long (where it starts, its length)."
-use Rattle.std.specs.Prelude.{ℕ, ◌+◌, cond, List, [], ◌∷◌, length}
+use Rattle.std.specs.Prelude.{ℕ, ◌+◌, cond, List, [], ◌∷◌, length, Option, Some, None, Result, Ok, Err}
 use Rattle.carry.specs.Pieces.{Stretch, stretches_of}
 use Rattle.lexitem.specs.Answer.{refusal}
 use Rattle.tally.specs.Names.{is_master}
 use Rattle.tally.specs.Tally.{count_over}
 use Rattle.walker.specs.Lines.{lines_of}
 use Rattle.audit.specs.Said.{said_of}
-use Rattle.audit.specs.declared.Checked.{Checked}
-use Rattle.audit.specs.declared.Checked.TheVariants.{Compared, Refused}
-use Rattle.audit.specs.declared.Said.{Said}
-use Rattle.audit.specs.declared.Said.TheVariants.{Numbers, Unread}
+use Rattle.lexitem.specs.declared.answer.Refusal.{Refusal}
+use Rattle.master.specs.declared.record.Master.{Master}
+use Rattle.audit.specs.declared.Compared.{Compared}
 
 -- a line, and where it starts
 pub record Placed : Type 0 where
@@ -34,12 +33,15 @@ unfoldable pub masters_of : List ℕ → List Placed
 masters_of f = masters (placed 0 (stretches_of f))
 
 -- ---- what is answered
-abbrev pub refused : ℕ → ℕ → ℕ → Checked
-refused number place length = Refused (refusal number place length)
+abbrev pub Checked : Type 0
+Checked = Result Compared Refusal
 
-abbrev pub held_by : List (List ℕ) → Placed → Said → Checked
-held_by ls p Unread = refused 12 p.start (length p.text)
-held_by ls p (Numbers m) = Compared (record { counted = count_over ls; said = m })
+abbrev pub refused : ℕ → ℕ → ℕ → Checked
+refused number place length = Err (refusal number place length)
+
+abbrev pub held_by : List (List ℕ) → Placed → Option Master → Checked
+held_by ls p None = refused 12 p.start (length p.text)
+held_by ls p (Some m) = Ok (record { counted = count_over ls; said = m })
 
 -- the count over lines beside what their one MASTER line says
 abbrev pub held : List (List ℕ) → Placed → Checked

@@ -1,26 +1,23 @@
 -- "The running tally is .. updated line by line": what is known of a file after some of its lines, as they come, in a small space however many there
 -- are. Of MASTER lines no more is kept than the answer needs: what the first one says, or where it starts and how long it is if it can't be read,
 -- or the same of the second.
-use Rattle.std.specs.Prelude.{ℕ, ◌+◌, ◌-◌, ◌^◌, min, cond, List, [], ◌∷◌, ltb, length}
+use Rattle.std.specs.Prelude.{ℕ, ◌+◌, ◌-◌, ◌^◌, min, cond, List, [], ◌∷◌, ltb, length, Option, Some, None, Ok}
 use Rattle.carry.specs.Pieces.{Stretch, texts, taken_by}
 use Rattle.tally.specs.Names.{is_master}
 use Rattle.tally.specs.Tally as tally
 use Rattle.tally.specs.declared.Tally.{Tally}
-use Rattle.audit.specs.Audit.{Placed, placed, masters, refused}
+use Rattle.audit.specs.Audit.{Placed, placed, masters, Checked, refused}
 use Rattle.audit.specs.Said.{said_of}
-use Rattle.audit.specs.declared.Checked.{Checked}
-use Rattle.audit.specs.declared.Checked.TheVariants.{Compared}
-use Rattle.audit.specs.declared.Said.{Said}
-use Rattle.audit.specs.declared.Said.TheVariants as said
+use Rattle.master.specs.declared.record.Master.{Master}
 use Rattle.audit.specs.declared.watch.Masters.{Masters}
 use Rattle.audit.specs.declared.watch.Masters.TheVariants.{Missing, Unread, Numbers, Several}
 use Rattle.audit.specs.declared.watch.Watch.{Watch}
 
 -- ---- the MASTER lines so far
 -- one that stands at a place and has so many bytes, by what it says
-abbrev pub read_as : Said → ℕ → ℕ → Masters
-read_as said.Unread at size = Unread at size
-read_as (said.Numbers m) at size = Numbers m
+abbrev pub read_as : Option Master → ℕ → ℕ → Masters
+read_as None at size = Unread at size
+read_as (Some m) at size = Numbers m
 
 -- the first one; of a line over 1,024 bytes only a front may be at hand, and the lexer refuses it
 abbrev pub first_master : List ℕ → ℕ → ℕ → Masters
@@ -69,7 +66,7 @@ known ss = record { at = taken_by ss; counted = tally.count_over (texts ss); mas
 abbrev pub judged_as : Tally → Masters → Checked
 judged_as t Missing = refused 10 0 0
 judged_as t (Unread start length) = refused 12 start length
-judged_as t (Numbers m) = Compared (record { counted = t; said = m })
+judged_as t (Numbers m) = Ok (record { counted = t; said = m })
 judged_as t (Several start length) = refused 11 start length
 
 abbrev pub judged_by : Watch → Checked

@@ -17,13 +17,6 @@ use lexitem::answer::Refusal;
 use master::record::Master;
 use tally::Tally;
 
-// What a MASTER line says, if it can be read.
-#[derive(Clone, Copy)]
-pub enum Said {
-    Numbers(Master),
-    Unread,
-}
-
 // What was counted in a file, and what its MASTER says.
 #[derive(Clone, Copy)]
 pub struct Compared {
@@ -31,15 +24,8 @@ pub struct Compared {
     pub said: Master,
 }
 
-// What the checker answers: both counts, or a refusal by document 02's number, with its place and length in the file.
-#[derive(Clone, Copy)]
-pub enum Checked {
-    Compared(Compared),
-    Refused(Refusal),
-}
-
-// Checks a file of any bytes.
-pub fn check_master(file: &[u8]) -> Checked
+// Checks a file of any bytes: both counts, or a refusal by document 02's number, with its place and length in the file.
+pub fn check_master(file: &[u8]) -> Result<Compared, Refusal>
     ensures { result ≡ checked file.now }
 {
     judge(see_lines(Watch::NONE, file))

@@ -5,47 +5,40 @@ ghost use Rattle.audit.specs.Watch as specs;
 ghost use Rattle.carry.specs.Pieces.{stretches_of};
 ghost use Rattle.tally.specs.Names.{is_master};
 
-use crate::Said;
 use crate::watch::{Masters, Watch};
 use lexer::lex_line;
-use lexitem::answer::Outcome;
+use lexitem::answer::Refusal;
 use lexitem::item::LexItem;
 use line::options::Options;
+use master::record::Master;
 use tally::counted;
 use tally::names::is_master;
-use walker::lines::{Step, line};
+use walker::lines::line;
 use walker::step;
 
-// The longest line that the lexer reads, and the last place that there is.
+// The longest line that the lexer reads.
 const LONGEST: usize = 1024;
 
-const LAST: usize = 18446744073709551615;
-
-fn said_in(outcome: Outcome) -> Said
+fn said_in(outcome: Result<LexItem, Refusal>) -> Option<Master>
     ensures { result ≡ said_in outcome }
 {
-    let Outcome::Accepted(item) = outcome else {
-        return Said::Unread;
-    };
-    let LexItem::Master(master) = item else {
-        return Said::Unread;
-    };
-    Said::Numbers(master)
+    match outcome {
+        Ok(LexItem::Master(master)) => Some(master),
+        _ => None,
+    }
 }
 
 // Reads a MASTER line with the plain options. The lexer calls the six bytes alone EMPTY, so they say nothing.
-fn read_master(text: &[u8]) -> Said
+fn read_master(text: &[u8]) -> Option<Master>
     requires { is_master text.now ≡ true }
     ensures { result ≡ said_of text.now }
 {
     let remarks = [1u8; 1000];
     let answer = lex_line(text, 1, Options::PLAIN, &remarks);
-    let faults = answer.faults;
-    if faults.count != 0 {
-        return Said::Unread;
+    if answer.faults.count != 0 {
+        return None;
     }
-    let outcome = answer.outcome;
-    said_in(outcome)
+    said_in(answer.outcome)
 }
 
 // The first MASTER line, of so many bytes, which stands at a place. Over 1,024 of them can't be read, and needn't be at hand.
@@ -59,13 +52,13 @@ fn first_master(text: &[u8], size: usize, at: usize) -> Masters
             length: size,
         };
     }
-    let Said::Numbers(said) = read_master(text) else {
-        return Masters::Unread {
+    match read_master(text) {
+        Some(said) => Masters::Numbers(said),
+        None => Masters::Unread {
             start: at,
             length: size,
-        };
-    };
-    Masters::Numbers(said)
+        },
+    }
 }
 
 // A MASTER line more.
@@ -104,10 +97,7 @@ fn with_line(masters: Masters, text: &[u8], size: usize, at: usize) -> Masters
 fn further(at: usize, taken: usize) -> usize
     ensures { result ≡ specs.further at taken }
 {
-    if LAST - at < taken {
-        return LAST;
-    }
-    at + taken
+    at.saturating_add(taken)
 }
 
 // One line more, of which a front is at hand, that has so many bytes and takes up so many with what ends it.
@@ -131,11 +121,11 @@ pub fn see_lines(watch: Watch, file: &[u8]) -> Watch
     let mut w = watch;
     let mut at = 0;
     loop {
-        let Step::At { start, end, next } = step(file, at) else {
+        let Some(here) = step(file, at) else {
             return w;
         };
-        let text = line(file, start, end);
-        w = see_line(w, text, text.len(), next - at);
-        at = next;
+        let text = line(file, here.start, here.end);
+        w = see_line(w, text, text.len(), here.next - at);
+        at = here.next;
     }
 }

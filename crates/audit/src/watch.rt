@@ -3,7 +3,7 @@ ghost use Rattle.std.specs.Prelude.{◌≡◌};
 ghost use Rattle.audit.specs.Audit.{refused};
 ghost use Rattle.audit.specs.Watch as specs;
 
-use crate::{Checked, Compared};
+use crate::Compared;
 use lexitem::answer::Refusal;
 use master::record::Master;
 use tally::Tally;
@@ -35,14 +35,14 @@ impl Watch {
     };
 }
 
-fn refuse(number: usize, place: usize, length: usize) -> Checked
+fn refuse(number: usize, place: usize, length: usize) -> Result<Compared, Refusal>
     ensures { result ≡ refused number place length }
 {
-    Checked::Refused(Refusal::new(number, place, length))
+    Err(Refusal::new(number, place, length))
 }
 
 // What is answered if these are all lines.
-pub fn judge(watch: Watch) -> Checked
+pub fn judge(watch: Watch) -> Result<Compared, Refusal>
     ensures { result ≡ specs.judged_by watch }
 {
     let counted = watch.counted;
@@ -51,6 +51,6 @@ pub fn judge(watch: Watch) -> Checked
         Masters::Missing => refuse(10, 0, 0),
         Masters::Unread { start, length } => refuse(12, start, length),
         Masters::Several { start, length } => refuse(11, start, length),
-        Masters::Numbers(said) => Checked::Compared(Compared { counted, said }),
+        Masters::Numbers(said) => Ok(Compared { counted, said }),
     }
 }

@@ -1,5 +1,4 @@
 -- What a MASTER line says.
---     no-master       a record but the one that a `match` names says nothing
 --     master-front    a MASTER line begins with its name, whole
 --     fault-unread,   what comes of the answer is what the line says: the lexer reads a MASTER line of more than six bytes as MASTER, and the six
 --     read-said       alone as EMPTY
@@ -9,57 +8,26 @@ use Prim.Native.Nat.{ℕ, ◌≤◌, ◌<◌}
 use mathlib.Core.Path.{◌≡◌, refl, sym, ap, ◌∙◌}
 use mathlib.Core.Bool.{Bool, true, false, cond, ◌&&◌, ◌||◌}
 use mathlib.Core.List.{List, [], ◌∷◌}
+use Rattle.std.proofs.Common.{Option, Some, None, Result, Ok, Err}
 use native.Mathlib.Omega.{arith}
 use borrow.Author.Tests.{eqb-true, eqb-false, lt-ltb}
 use lib.Dec.{eqb, ltb}
 use lib.ListN.{length, take, get_or}
-use types.Run.{OneOf, miss}
-use denote.Enum.Declared.{tag_of}
 use Rattle.kind.specs.Kind.{same, kind_of}
 use Rattle.kind.specs.declared.Kind.TheVariants as kind
 use Rattle.lexer.specs.Refusals as refusals
 use Rattle.lexer.proofs.Laws.Accepted.{accepted-item}
 use Rattle.lexitem.specs.Describe.{item_of}
 use Rattle.lexitem.specs.declared.answer.Answer.{Answer}
-use Rattle.lexitem.specs.declared.answer.Outcome.{Outcome}
-use Rattle.lexitem.specs.declared.answer.Outcome.TheVariants.{Accepted, Refused}
+use Rattle.lexitem.specs.declared.answer.Refusal.{Refusal}
 use Rattle.lexitem.specs.declared.item.LexItem.{LexItem}
 use Rattle.lexitem.specs.declared.item.LexItem.TheVariants as item
-use Rattle.lexitem.specs.contracts.item.LexItem.{the_type as item-type}
 use Rattle.line.specs.Bytes.{bytes}
 use Rattle.line.specs.declared.options.Mode.TheVariants.{Crate}
 use Rattle.master.specs.Master.{master_of}
 use Rattle.tally.specs.Names.{padded, is_master}
 use Rattle.audit.specs.Said.{reading, answer, is_refused, is_unread, said_of, said_by, said_in}
-use Rattle.audit.specs.declared.Said.{Said}
-use Rattle.audit.specs.declared.Said.TheVariants.{Numbers, Unread}
-
--- the places of the records but MASTER's
-abbrev others : List ℕ
-others = 0 ∷ 1 ∷ 2 ∷ 3 ∷ 4 ∷ 5 ∷ 6 ∷ 7 ∷ 8 ∷ 9 ∷ 11 ∷ 12 ∷ 13 ∷ 14 ∷ 15 ∷ 16 ∷ 17 ∷ 18 ∷ 19 ∷ 20 ∷ []
-
-pub no-master : (v : LexItem) → OneOf others (tag_of item-type v) → said_by v ≡ Unread
-no-master item.Empty h = refl
-no-master (item.Header v) h = refl
-no-master (item.Remark v) h = refl
-no-master (item.Atom v) h = refl
-no-master (item.Anisou v) h = refl
-no-master (item.Crystal v) h = refl
-no-master (item.Scale v) h = refl
-no-master (item.OrigX v) h = refl
-no-master (item.MtriX v) h = refl
-no-master (item.Model v) h = refl
-no-master (item.Master v) h = absurd (miss others 10 tt h)
-no-master (item.Seqres v) h = refl
-no-master (item.Dbref v) h = refl
-no-master (item.Dbref1 v) h = refl
-no-master (item.Dbref2 v) h = refl
-no-master (item.Seqadv v) h = refl
-no-master (item.Modres v) h = refl
-no-master (item.SSBond v) h = refl
-no-master item.EndModel h = refl
-no-master item.Ter h = refl
-no-master item.End h = refl
+use Rattle.master.specs.declared.record.Master.{Master}
 
 -- ---- the name
 same_text : (s t : List ℕ) → same s t ≡ true → s ≡ t
@@ -104,7 +72,7 @@ unfolding kind_of
 long-master l n e = rw (lt-ltb 6 (length l) n, e) refl
 
 -- ---- what it says
-said-fault : (l : List ℕ) → ((answer l).faults.count ≡ 0 → ⊥) → Unread ≡ said_of l
+said-fault : (l : List ℕ) → ((answer l).faults.count ≡ 0 → ⊥) → None ≡ said_of l
 unfolding is_unread
 said-fault l h = rw (lt-ltb 0 (answer l).faults.count (omega (arith, h))) refl
 
@@ -116,19 +84,19 @@ said_read l m none = rw none (go (answer l).outcome refl)
     name = master-front l m
 
     accepted : (x : LexItem) → x ≡ item_of (kind_of false Crate l) (refusals.given (reading l)) → (b : Bool) → eqb (length l) 6 ≡ b
-        → said_by x ≡ cond b Unread (Numbers (master_of l))
+        → said_by x ≡ cond b None (Some (master_of l))
     accepted x e true six = rw (e, six-empty l (eqb-true (length l) 6 six) name.1) refl
     accepted x e false other =
         let more = eqb-false (length l) 6 other in
         let most = name.0 in
         rw (e, long-master l (omega (arith, more)) name.1) refl
 
-    go : (o : Outcome) → (answer l).outcome ≡ o → said_in o ≡ cond (is_refused o || eqb (length l) 6) Unread (Numbers (master_of l))
-    go (Refused r) e = refl
-    go (Accepted x) e = accepted x (accepted-item (reading l) x e) (eqb (length l) 6) refl
+    go : (o : Result LexItem Refusal) → (answer l).outcome ≡ o → said_in o ≡ cond (is_refused o || eqb (length l) 6) None (Some (master_of l))
+    go (Err r) e = refl
+    go (Ok x) e = accepted x (accepted-item (reading l) x e) (eqb (length l) 6) refl
 
 -- a MASTER line that can be read is one to the lexer too, and its record says these numbers
-pub said-lexed : (l : List ℕ) → is_master l ≡ true → is_unread l ≡ false → (answer l).outcome ≡ Accepted (item.Master (master_of l))
+pub said-lexed : (l : List ℕ) → is_master l ≡ true → is_unread l ≡ false → (answer l).outcome ≡ Ok (item.Master (master_of l))
 unfolding is_unread
 said-lexed l m read = go (answer l).outcome refl read
   where
@@ -144,19 +112,19 @@ said-lexed l m read = go (answer l).outcome refl read
     no true h = let z : ◌≡◌ {A = ℕ} 0 1 = cc in omega arith
     no false h = let z : ◌≡◌ {A = ℕ} 0 1 = cc in omega arith
 
-    go : (o : Outcome) → (answer l).outcome ≡ o → ltb 0 (answer l).faults.count || is_refused o || eqb (length l) 6 ≡ false
-        → (answer l).outcome ≡ Accepted (item.Master (master_of l))
-    go (Refused r) e h = absurd (no (ltb 0 (answer l).faults.count) h)
-    go (Accepted x) e h =
+    go : (o : Result LexItem Refusal) → (answer l).outcome ≡ o → ltb 0 (answer l).faults.count || is_refused o || eqb (length l) 6 ≡ false
+        → (answer l).outcome ≡ Ok (item.Master (master_of l))
+    go (Err r) e h = absurd (no (ltb 0 (answer l).faults.count) h)
+    go (Ok x) e h =
         let long = six (ltb 0 (answer l).faults.count) (eqb (length l) 6) refl h in
         let is : x ≡ item.Master (master_of l) = accepted-item (reading l) x e ∙ rw (long-master l long name.1) refl in
         rw (← is) e
 
 -- the same of what the lexer answered
 module _ (l : List ℕ) (a : Answer) (is : a ≡ answer l) where
-  pub fault-unread : (a.faults.count ≡ 0 → ⊥) → Unread ≡ said_of l
+  pub fault-unread : (a.faults.count ≡ 0 → ⊥) → None ≡ said_of l
   fault-unread h = said-fault l (λ z. h (ap (λ (x : Answer). x.faults.count) is ∙ z))
 
-  pub read-said : (r : Said) → is_master l ≡ true → a.faults.count ≡ 0 → r ≡ said_in a.outcome → r ≡ said_of l
+  pub read-said : (r : Option Master) → is_master l ≡ true → a.faults.count ≡ 0 → r ≡ said_in a.outcome → r ≡ said_of l
   read-said r m none e =
       e ∙ ap (λ (x : Answer). said_in x.outcome) is ∙ said_read l m (sym (ap (λ (x : Answer). x.faults.count) is) ∙ none)

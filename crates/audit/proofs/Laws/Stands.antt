@@ -6,6 +6,7 @@ use Prim.Native.Nat.{ℕ, zero, suc, ◌+◌, ◌-◌, ◌≤◌}
 use mathlib.Core.Path.{◌≡◌, refl, ap, ◌∙◌}
 use mathlib.Core.Bool.{Bool, true, false, cond}
 use mathlib.Core.List.{List, [], ◌∷◌, map}
+use Rattle.std.proofs.Common.{Some}
 use native.Mathlib.Omega.{arith}
 use borrow.Author.Tests.{ltb-true, ltb-false}
 use lib.Dec.{ltb}
@@ -15,7 +16,7 @@ use Rattle.carry.proofs.Laws.Pieces.{texts-of}
 use Rattle.carry.proofs.Laws.Step.{stretch-end, stretch-next}
 use Rattle.tally.specs.Names.{is_master}
 use Rattle.walker.specs.Lines.{lines_of, line_taken, step_at}
-use Rattle.walker.specs.declared.lines.Step.TheVariants.{At}
+use Rattle.walker.specs.declared.Line.{Line}
 use Rattle.walker.proofs.Laws.Lines.{step_in, step_end, step-served}
 use Rattle.audit.specs.Audit.{Placed, placed, masters, masters_of}
 use Rattle.audit.specs.When.{StandIn}
@@ -33,13 +34,13 @@ taken-again (suc k) [] = refl
 taken-again (suc k) (b ∷ t) = ap (λ (rest : List ℕ). b ∷ rest) (taken-again k t)
 
 module _ (f : List ℕ) where
-  placed-next : (at start end next : ℕ) → step_at f at ≡ At start end next → StandIn f (placed next (stretches_of (drop next f)))
+  placed-next : (at : ℕ) (l : Line) → step_at f at ≡ Some l → StandIn f (placed l.next (stretches_of (drop l.next f)))
       → StandIn f (placed at (stretches_of (drop at f)))
-  placed-next at start end next e rest =
-      let s = step-served f at start end next e in
+  placed-next at l e rest =
+      let s = step-served f at l e in
       let moves = s.moves in
-      let behind : at + (next - at) ≡ next = omega arith in
-      rw (stretch-next f at start end next e, behind, s.part, s.first) (taken-again (end - at) (drop at f), rest)
+      let behind : at + (l.next - at) ≡ l.next = omega arith in
+      rw (stretch-next f at l e, behind, s.part, s.first) (taken-again (l.end - at) (drop at f), rest)
 
   placed_stand : (n at : ℕ) → length f ≤ at + n → StandIn f (placed at (stretches_of (drop at f)))
   placed_stand zero at h = rw (stretch-end f at ((step_end f at).1 (omega arith))) tt
@@ -50,9 +51,9 @@ module _ (f : List ℕ) where
       go false e rest = rw (stretch-end f at ((step_end f at).1 (ltb-false at (length f) e))) tt
       go true e rest =
           let here = step_in f at (ltb-true at (length f) e) in
-          let s = step-served f at _ _ _ here in
+          let s = step-served f at _ here in
           let moves = s.moves in
-          placed-next at _ _ _ here (rest (at + line_taken (drop at f)) (omega arith))
+          placed-next at _ here (rest (at + line_taken (drop at f)) (omega arith))
 
   masters-among : (ps : List Placed) → StandIn f ps → StandIn f (masters ps)
   masters-among [] h = tt

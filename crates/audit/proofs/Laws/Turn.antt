@@ -1,6 +1,5 @@
 -- The laws over the code's steps.
 --     turn_end, turn-next, turn-moves           a turn of the loop over a file's lines
---     first-long, first-unread, first-numbers   the first MASTER line, by its length and by what it says
 --     rest_watches                              the rest of a part before which nothing is held
 --     part_free, part_held, part-ended          a part: nothing is held, no LF ends the line that is, or one does
 --     last_empty, last_some                     the end of the input
@@ -9,6 +8,7 @@
 use Prim.Native.Nat.{ℕ, suc, ◌+◌, ◌-◌, ◌≤◌, ◌<◌}
 use mathlib.Core.Path.{◌≡◌, refl, sym, ap, ◌∙◌}
 use mathlib.Core.List.{List}
+use Rattle.std.proofs.Common.{Some, None}
 use native.Mathlib.Nat.{add-sub_cancel_left}
 use native.Mathlib.Omega.{arith}
 use borrow.Author.Tests.{lt-ltb, le-ltb, eq-eqb, ne_eqb}
@@ -20,44 +20,27 @@ use Rattle.carry.specs.Whole.{whole_length, whole_of}
 use Rattle.carry.specs.declared.held.Held.{Held}
 use Rattle.carry.specs.declared.keep.Absorbed.{Absorbed}
 use Rattle.carry.proofs.Laws.Step.{stretch-end, stretch-next}
-use Rattle.master.specs.declared.record.Master.{Master}
 use Rattle.walker.specs.Lines.{before_lf, step_at, part_of, number_behind}
-use Rattle.walker.specs.declared.lines.Step.TheVariants.{At, End}
+use Rattle.walker.specs.declared.Line.{Line}
 use Rattle.walker.proofs.Laws.Lines.{step-served}
 use Rattle.audit.specs.Cuts.{seen_held, last_watch, Progress, freely, behind_part, Watches}
-use Rattle.audit.specs.Said.{said_of}
-use Rattle.audit.specs.Watch.{first_master, seen, watched}
-use Rattle.audit.specs.declared.Said.{Said}
-use Rattle.audit.specs.declared.Said.TheVariants as said
+use Rattle.audit.specs.Watch.{seen, watched}
 use Rattle.audit.specs.declared.feed.Watched.{Watched}
-use Rattle.audit.specs.declared.watch.Masters.TheVariants.{Unread, Numbers}
 use Rattle.audit.specs.declared.watch.Watch.{Watch}
 
 -- ---- the loop over a file's lines
 module _ (f : List ℕ) (at : ℕ) (w e : Watch) (v : watched w (stretches_of (drop at f)) ≡ e) where
-  pub turn_end : step_at f at ≡ End → w ≡ e
+  pub turn_end : step_at f at ≡ None → w ≡ e
   unfolding watched
   turn_end h = rw (stretch-end f at h) at v
 
-  pub turn-next : (start end next : ℕ) (l : List ℕ) (u : Watch) → step_at f at ≡ At start end next → l ≡ part_of f start end
-      → u ≡ seen w l (length l) (next - at) → watched u (stretches_of (drop next f)) ≡ e
+  pub turn-next : (k : Line) (l : List ℕ) (u : Watch) → step_at f at ≡ Some k → l ≡ part_of f k.start k.end
+      → u ≡ seen w l (length l) (k.next - at) → watched u (stretches_of (drop k.next f)) ≡ e
   unfolding watched
-  turn-next start end next l u h p s = rw (s, p) (rw (stretch-next f at start end next h) at v)
+  turn-next k l u h p s = rw (s, p) (rw (stretch-next f at k h) at v)
 
-pub turn-moves : (f : List ℕ) (at start end next : ℕ) → step_at f at ≡ At start end next → (at < next) × (next ≤ length f)
-turn-moves f at start end next h = let s = step-served f at start end next h in (s.moves, s.within)
-
--- ---- the first MASTER line
-module _ (text : List ℕ) (size at : ℕ) where
-  pub first-long : 1024 < size → Unread at size ≡ first_master text size at
-  first-long l = rw (lt-ltb 1024 size l) refl
-
-  module _ (few : size ≤ 1024) (s : Said) (says : s ≡ said_of text) where
-    pub first-unread : s ≡ said.Unread → Unread at size ≡ first_master text size at
-    first-unread e = rw (le-ltb 1024 size few, ← says, e) refl
-
-    pub first-numbers : (m : Master) → s ≡ said.Numbers m → Numbers m ≡ first_master text size at
-    first-numbers m e = rw (le-ltb 1024 size few, ← says, e) refl
+pub turn-moves : (f : List ℕ) (at : ℕ) (k : Line) → step_at f at ≡ Some k → (at < k.next) × (k.next ≤ length f)
+turn-moves f at k h = let s = step-served f at k h in (s.moves, s.within)
 
 -- ---- the rest of a part
 module _ (part : List ℕ) (at behind number : ℕ) (w seen : Watch) (before after : List ℕ) (fresh : Held) (a : Absorbed) where

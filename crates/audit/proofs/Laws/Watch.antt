@@ -8,6 +8,7 @@ use Prim.Native.Nat.{ℕ, ◌+◌, ◌^◌, ◌≤◌, ◌<◌}
 use mathlib.Core.Path.{◌≡◌, refl, sym, ap, ◌∙◌}
 use mathlib.Core.Bool.{Bool, true, false, cond, ◌||◌}
 use mathlib.Core.List.{List, [], ◌∷◌, ◌++◌, append-nil}
+use Rattle.std.proofs.Common.{Option, Some, None, Err}
 use native.Mathlib.Omega.{arith}
 use borrow.Author.Tests.{lt-ltb, ltb-true}
 use lib.Dec.{eqb, ltb}
@@ -18,7 +19,6 @@ use Rattle.carry.proofs.Laws.Pieces.{texts-append, taken-append, texts-of, taken
 use Rattle.lexer.specs.Lexed.{lexed}
 use Rattle.lexer.specs.Refusals.{excess}
 use Rattle.lexitem.specs.Answer.{refusal}
-use Rattle.lexitem.specs.declared.answer.Outcome.TheVariants as outcome
 use Rattle.master.specs.Master.{master_of}
 use Rattle.tally.specs.Names.{is_master}
 use Rattle.tally.specs.Tally.{counted, tallied, count_over}
@@ -29,20 +29,19 @@ use Rattle.walker.proofs.Laws.Lines.{lines-le}
 use Rattle.audit.specs.Audit.{Placed, placed_at, placed, masters, masters_of, held_by, judged, checked}
 use Rattle.audit.specs.Said.{answer, is_unread, said_of}
 use Rattle.audit.specs.Watch.{read_as, first_master, with_master, further, seen, watched, fresh, masters_known, known, judged_as, judged_by}
-use Rattle.audit.specs.declared.Said.{Said}
-use Rattle.audit.specs.declared.Said.TheVariants as said
+use Rattle.master.specs.declared.record.Master.{Master}
 use Rattle.audit.specs.declared.watch.Masters.TheVariants.{Several}
 
 -- ---- a line over 1,024 bytes
-long-refused : (l : List ℕ) → 1024 < length l → (answer l).outcome ≡ outcome.Refused (refusal 2 1024 (excess (length l)))
+long-refused : (l : List ℕ) → 1024 < length l → (answer l).outcome ≡ Err (refusal 2 1024 (excess (length l)))
 unfolding lexed
 long-refused l h = rw (lt-ltb 1024 (length l) h) refl
 
-pub long-unread : (l : List ℕ) → 1024 < length l → said_of l ≡ said.Unread
+pub long-unread : (l : List ℕ) → 1024 < length l → said_of l ≡ None
 unfolding is_unread
 long-unread l h = rw (long-refused l h) (go (ltb 0 (answer l).faults.count) (eqb (length l) 6))
   where
-    go : (b c : Bool) → cond (b || true || c) said.Unread (said.Numbers (master_of l)) ≡ said.Unread
+    go : (b c : Bool) → cond (b || true || c) None (Some (master_of l)) ≡ None
     go true c = refl
     go false c = refl
 
@@ -58,9 +57,9 @@ more-known : (xs : List Placed) (p : Placed) → with_master (masters_known xs) 
 more-known [] p = first-known p.text p.start
 more-known (x ∷ []) p = go (said_of x.text)
   where
-    go : (s : Said) → with_master (read_as s x.start (length x.text)) p.text (length p.text) p.start ≡ Several p.start (length p.text)
-    go said.Unread = refl
-    go (said.Numbers m) = refl
+    go : (s : Option Master) → with_master (read_as s x.start (length x.text)) p.text (length p.text) p.start ≡ Several p.start (length p.text)
+    go None = refl
+    go (Some m) = refl
 more-known (x ∷ y ∷ xs) p = refl
 
 -- ---- line after line, behind others
@@ -108,9 +107,9 @@ pub judged-known : (ls : List (List ℕ)) (ms : List Placed) → judged_as (coun
 judged-known ls [] = refl
 judged-known ls (p ∷ []) = go (said_of p.text)
   where
-    go : (s : Said) → judged_as (count_over ls) (read_as s p.start (length p.text)) ≡ held_by ls p s
-    go said.Unread = refl
-    go (said.Numbers m) = refl
+    go : (s : Option Master) → judged_as (count_over ls) (read_as s p.start (length p.text)) ≡ held_by ls p s
+    go None = refl
+    go (Some m) = refl
 judged-known ls (p ∷ q ∷ ps) = refl
 
 pub checked-watched : (f : List ℕ) → length f < 2 ^ 64 → judged_by (watched fresh (stretches_of f)) ≡ checked f

@@ -12,6 +12,7 @@ use mathlib.Core.Path.{◌≡◌, refl, sym, ap, ◌∙◌, subst}
 use mathlib.Core.Logic.{◌↔◌, ◌≢◌, inl, inr}
 use mathlib.Core.Bool.{Bool, true, false, cond, ◌||◌}
 use mathlib.Core.List.{List, [], ◌∷◌}
+use Rattle.std.proofs.Common.{Some, None, Ok}
 use native.Mathlib.Omega.{arith}
 use borrow.Author.Tests.{eqb-true, eqb-false, ltb-true, ltb-false}
 use lib.Dec.{eqb, ltb}
@@ -30,9 +31,7 @@ use Rattle.audit.specs.Said.{answer, is_refused, is_unread}
 use Rattle.audit.specs.Audit.{Placed, placed_at, placed, masters, masters_of, refused, held_by, held, judged, checked}
 use Rattle.audit.specs.Found.{differs}
 use Rattle.audit.specs.When.{masters_in, number_of, Unreadable}
-use Rattle.audit.specs.declared.Checked.TheVariants as checked
 use Rattle.audit.specs.declared.Compared.{Compared}
-use Rattle.audit.specs.declared.Said.TheVariants.{Numbers, Unread}
 
 -- ---- how many there are
 masters-length : (at : ℕ) (ss : List Stretch) → length (masters (placed at ss)) ≡ masters_in (texts ss)
@@ -71,7 +70,7 @@ unread_when l = go (ltb 0 (answer l).faults.count) (is_refused (answer l).outcom
 held_number : (ls : List (List ℕ)) (p : Placed) → number_of (held ls p) ≡ cond (is_unread p.text) 12 0
 held_number ls p = go (is_unread p.text)
   where
-    go : (b : Bool) → number_of (held_by ls p (cond b Unread (Numbers (master_of p.text)))) ≡ cond b 12 0
+    go : (b : Bool) → number_of (held_by ls p (cond b None (Some (master_of p.text)))) ≡ cond b 12 0
     go true = refl
     go false = refl
 
@@ -157,17 +156,17 @@ unfolding checked
 twelve_where f p e u = rw (e, u) refl
 
 -- ---- what is handed out
-pub compared_is : (f : List ℕ) (c : Compared) → checked f ≡ checked.Compared c
+pub compared_is : (f : List ℕ) (c : Compared) → checked f ≡ Ok c
     → One f (λ l. c ≡ record { counted = count_over (lines_of f); said = master_of l })
 unfolding checked
 compared_is f c e = go (masters_of f) refl e
   where
-    held-is : (p : Placed) (b : Bool) → held_by (lines_of f) p (cond b Unread (Numbers (master_of p.text))) ≡ checked.Compared c
+    held-is : (p : Placed) (b : Bool) → held_by (lines_of f) p (cond b None (Some (master_of p.text))) ≡ Ok c
         → c ≡ record { counted = count_over (lines_of f); said = master_of p.text }
     held-is p true e = cc
     held-is p false e = cc
 
-    go : (ms : List Placed) → masters_of f ≡ ms → judged (lines_of f) ms ≡ checked.Compared c
+    go : (ms : List Placed) → masters_of f ≡ ms → judged (lines_of f) ms ≡ Ok c
         → One f (λ l. c ≡ record { counted = count_over (lines_of f); said = master_of l })
     go [] is e = absurd (let z : ◌≡◌ {A = ℕ} 0 1 = cc in omega arith)
     go (p ∷ []) is e = (p, is, held-is p (is_unread p.text) e)
@@ -190,7 +189,7 @@ module _ (ls : List (List ℕ)) (l : List ℕ) where
   nth (suc (suc (suc (suc (suc (suc (suc (suc (suc (suc (suc zero))))))))))) h = (refl, refl)
   nth (suc (suc (suc (suc (suc (suc (suc (suc (suc (suc (suc (suc n)))))))))))) h = absurd (omega arith)
 
-pub bit_when : (f : List ℕ) (c : Compared) → checked f ≡ checked.Compared c → (n : ℕ) → n < 12
+pub bit_when : (f : List ℕ) (c : Compared) → checked f ≡ Ok c → (n : ℕ) → n < 12
     → One f (λ l. (bit_at n (differs c) ≡ 1) ↔ (count n (lines_of f) ≢ unsigned_at l (at n)))
 bit_when f c e n h =
     let (p, is, same) = compared_is f c e in

@@ -8,8 +8,8 @@ use Rattle.carry.specs.Pieces.{stretches_of}
 use Rattle.audit.specs.Watch.{watched}
 use Rattle.audit.proofs.see.see_lines.Given as goal
 
-abbrev pub invariant-loop-start : goal.invariant-loop-start
-invariant-loop-start l = watched l.w (stretches_of (drop l.at l.file)) ≡ watched l.initial.w (stretches_of l.file)
+abbrev pub invariant-loop-here : goal.invariant-loop-here
+invariant-loop-here l = watched l.w (stretches_of (drop l.at l.file)) ≡ watched l.initial.w (stretches_of l.file)
 
-abbrev pub decreases-loop-start : goal.decreases-loop-start
-decreases-loop-start l = length l.file - l.at
+abbrev pub decreases-loop-here : goal.decreases-loop-here
+decreases-loop-here l = length l.file - l.at
