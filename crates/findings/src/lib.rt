@@ -2,36 +2,24 @@
 // place and length.
 #![tactic(auto)]
 
-ghost use Rattle.std.specs.Prelude.{◌≡◌, ◌++◌, ◌≤◌, length, drop};
+ghost use Rattle.std.specs.Prelude.{◌≡◌};
 ghost use Rattle.audit.specs.Audit.{checked};
 ghost use Rattle.findings.specs.Check as specs;
 
+use audit::check_master;
 use audit::found::found_in;
-use audit::{Checked, check_master};
-
-fn put_words(found: &mut [u64], words: &[u64])
-    requires { length words.now ≤ length found.old }
-    ensures { found.new ≡ words.now ++ drop (length words.now) found.old }
-{
-    let mut i = 0;
-    while i < words.len() {
-        found[i] = words[i];
-        i += 1;
-    }
-}
 
 // Answers 0, or a number alone.
 pub fn check_into(file: &[u8], found: &mut [u64]) -> u64
     ensures { specs.Finds found.old (checked file.now) result found.new }
 {
     match check_master(file) {
-        Checked::Refused(refusal) => refusal.number as u64,
-        Checked::Compared(compared) => {
+        Err(refusal) => refusal.number as u64,
+        Ok(compared) => {
             if found.len() < 25 {
                 return 8;
             }
-            let words = found_in(compared);
-            put_words(found, &words);
+            found[..25].copy_from_slice(&found_in(compared));
             0
         }
     }
@@ -41,8 +29,8 @@ pub fn refused_place(file: &[u8]) -> u64
     ensures { result ≡ specs.place_of (checked file.now) }
 {
     match check_master(file) {
-        Checked::Refused(refusal) => refusal.place as u64,
-        Checked::Compared(_) => 0,
+        Err(refusal) => refusal.place as u64,
+        Ok(_) => 0,
     }
 }
 
@@ -50,7 +38,7 @@ pub fn refused_length(file: &[u8]) -> u64
     ensures { result ≡ specs.length_of (checked file.now) }
 {
     match check_master(file) {
-        Checked::Refused(refusal) => refusal.length as u64,
-        Checked::Compared(_) => 0,
+        Err(refusal) => refusal.length as u64,
+        Ok(_) => 0,
     }
 }

@@ -1,46 +1,26 @@
 -- Laws of the entry that holds a file against its MASTER line.
---     words-next, words-all                     words put one after the other
 --     finds_refused, finds_short, finds_all     what is answered, by what the checker says
 --     finds_one                                 that is one number, with one content of all words that are lent
 -- Assumes nothing.
-use Prim.Native.Nat.{ℕ, suc, ◌+◌, ◌≤◌, ◌<◌}
-use mathlib.Core.Path.{◌≡◌, refl, sym, ap, ◌∙◌}
-use mathlib.Core.List.{List, ◌∷◌, ◌++◌}
-use native.Mathlib.Numerals.{add-one}
-use native.Mathlib.Omega.{arith}
+use Prim.Native.Nat.{ℕ, ◌≤◌, ◌<◌}
+use mathlib.Core.Path.{◌≡◌, refl, sym, ◌∙◌}
+use mathlib.Core.List.{List, ◌++◌}
+use Rattle.std.proofs.Common.{Ok, Err}
 use borrow.Author.Tests.{lt-ltb, le-ltb}
-use lib.ListN.{length, take, drop, get_or, set}
-use lib.Seq.{take-suc, drop-cons, append_snoc, set_at, length-take-le, take_all}
+use lib.ListN.{length, drop}
 use Rattle.audit.specs.Found.{found_in_of}
-use Rattle.audit.specs.declared.Checked.{Checked}
-use Rattle.audit.specs.declared.Checked.TheVariants as checked
+use Rattle.audit.specs.Audit.{Checked}
 use Rattle.audit.specs.declared.Compared.{Compared}
 use Rattle.lexitem.specs.declared.answer.Refusal.{Refusal}
 use Rattle.findings.specs.Check.{Finds}
 
--- ---- putting words
-module _ (old words : List ℕ) (i : ℕ) (found : List ℕ) where
-  pub words-next : i < length words → length words ≤ length old → found ≡ take i words ++ drop i old
-      → set found i (get_or words i 0) ≡ take (i + 1) words ++ drop (i + 1) old
-  words-next h room v =
-      let front = length-take-le i words (omega arith) in
-      let split : found ≡ take i words ++ get_or old i 0 ∷ drop (suc i) old =
-      v ∙ ap (λ (t : List ℕ). take i words ++ t) (drop-cons old i 0 (omega arith)) in
-      rw (split, add-one i, take-suc words i 0 h)
-      (set_at (take i words) (get_or old i 0) (drop (suc i) old) (get_or words i 0) i front ∙ sym (append_snoc (take i words) (get_or words i 0) (drop (suc i) old)))
-
-  pub words-all : i ≤ length words → length words ≤ i → found ≡ take i words ++ drop i old → found ≡ words ++ drop (length words) old
-  words-all h k v =
-      let e : i ≡ length words = omega arith in
-      v ∙ rw (e, take_all (length words) words (omega arith)) refl
-
 -- ---- what is answered
 module _ (old : List ℕ) (c : Checked) (got : Checked) (is : got ≡ c) where
-  pub finds_refused : (r : Refusal) → got ≡ checked.Refused r → Finds old c r.number old
-  finds_refused r e = let k : c ≡ checked.Refused r = sym is ∙ e in rw k (record { answers = refl; leaves = refl })
+  pub finds_refused : (r : Refusal) → got ≡ Err r → Finds old c r.number old
+  finds_refused r e = let k : c ≡ Err r = sym is ∙ e in rw k (record { answers = refl; leaves = refl })
 
-  module _ (x : Compared) (e : got ≡ checked.Compared x) where
-    compared : c ≡ checked.Compared x
+  module _ (x : Compared) (e : got ≡ Ok x) where
+    compared : c ≡ Ok x
     compared = sym is ∙ e
 
     pub finds_short : length old < 25 → Finds old c 8 old

@@ -3,8 +3,8 @@
 use mathlib.Core.Path.{refl, sym, ◌∙◌}
 use Rattle.findings.proofs.refused_place.Goals as goal
 
-pub returns-in-Refused : goal.returns-in-Refused
-returns-in-Refused c = rw (sym c.check_master.ensures ∙ c.in-Refused.is) refl
+pub returns-in-Err : goal.returns-in-Err
+returns-in-Err c = rw (sym c.check_master.ensures ∙ c.in-Err.is) refl
 
-pub returns-in-Compared : goal.returns-in-Compared
-returns-in-Compared c = rw (sym c.check_master.ensures ∙ c.in-Compared.is) refl
+pub returns-in-Ok : goal.returns-in-Ok
+returns-in-Ok c = rw (sym c.check_master.ensures ∙ c.in-Ok.is) refl
