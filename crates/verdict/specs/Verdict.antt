@@ -1,9 +1,7 @@
 -- "A program for people: standard input, one row for each number (name, counted, said, same or not) and a last row that says in words whether lines are
 -- missing; refusals as rows." Every row ends with LF.
-use Rattle.std.specs.Prelude.{ℕ, Bool, false, cond, ◌||◌, List, [], ◌∷◌, ◌++◌, eqb, ltb, take, drop}
-use Rattle.audit.specs.Audit.{checked}
-use Rattle.audit.specs.declared.Checked.{Checked}
-use Rattle.audit.specs.declared.Checked.TheVariants as checked
+use Rattle.std.specs.Prelude.{ℕ, Bool, false, cond, ◌||◌, List, [], ◌∷◌, ◌++◌, eqb, ltb, take, drop, Ok, Err}
+use Rattle.audit.specs.Audit.{Checked, checked}
 use Rattle.audit.specs.declared.Compared.{Compared}
 use Rattle.layout.specs.Label.{three_row}
 use Rattle.lexitem.specs.declared.answer.Refusal.{Refusal}
@@ -73,8 +71,8 @@ refused_rows r = three_row (bytes "refusal=") r.number r.place r.length ++ why r
 
 -- ---- a file
 abbrev pub verdict_of : Checked → List ℕ
-verdict_of (checked.Compared c) = compared_rows c
-verdict_of (checked.Refused r) = refused_rows r
+verdict_of (Ok c) = compared_rows c
+verdict_of (Err r) = refused_rows r
 
 abbrev pub verdict : List ℕ → List ℕ
 verdict f = verdict_of (checked f)

@@ -5,7 +5,7 @@ ghost use Rattle.std.specs.Prelude.{◌≡◌, length};
 ghost use Rattle.page.specs.Page.{page, put};
 ghost use Rattle.verdict.specs.Verdict as specs;
 
-use audit::{Checked, Compared};
+use audit::Compared;
 use layout::put_three;
 use lexitem::answer::Refusal;
 use master::record::Master;
@@ -64,12 +64,10 @@ fn fewer(counted: &[u64], said: &[u64]) -> bool
     requires { length counted.now ≡ length said.now }
     ensures { result ≡ specs.fewer counted.now said.now }
 {
-    let mut i = 0;
-    while i < said.len() {
+    for i in 0..said.len() {
         if counted[i] < said[i] {
             return true;
         }
-        i += 1;
     }
     false
 }
@@ -142,11 +140,11 @@ fn put_refused(out: &mut [u8], at: usize, refusal: Refusal) -> usize
 }
 
 // What is printed for a file, by what the checker answers of it, at the front of lent bytes; 4,096 hold it.
-pub fn put_verdict(checked: Checked, out: &mut [u8]) -> usize
+pub fn put_verdict(checked: Result<Compared, Refusal>, out: &mut [u8]) -> usize
     ensures { page out.new result ≡ put (page out.old 0) (specs.verdict_of checked) }
 {
     match checked {
-        Checked::Compared(compared) => put_compared(out, 0, compared),
-        Checked::Refused(refusal) => put_refused(out, 0, refusal),
+        Ok(compared) => put_compared(out, 0, compared),
+        Err(refusal) => put_refused(out, 0, refusal),
     }
 }

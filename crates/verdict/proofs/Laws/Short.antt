@@ -8,8 +8,8 @@ use mathlib.Core.List.{List}
 use native.Mathlib.Omega.{arith}
 use lib.Dec.{eqb, lit≤}
 use lib.ListN.{length, length-append}
-use Rattle.audit.specs.declared.Checked.{Checked}
-use Rattle.audit.specs.declared.Checked.TheVariants as checked
+use Rattle.std.proofs.Common.{Ok, Err}
+use Rattle.audit.specs.Audit.{Checked}
 use Rattle.layout.specs.Label.{three_row}
 use Rattle.line.specs.Bytes.{bytes}
 use Rattle.master.specs.declared.record.Master.{Master}
@@ -76,12 +76,12 @@ three-most a b c =
 -- ---- a file
 pub verdict-short : (c : Checked) → length (verdict_of c) ≤ 4096
 unfolding compared_rows refused_rows
-verdict-short (checked.Compared c) =
+verdict-short (Ok c) =
     let a = upper-most c.counted c.said in
     let b = lower-most c.counted c.said in
     let d = last-most c.counted c.said in
     simp length-append (omega arith)
-verdict-short (checked.Refused r) =
+verdict-short (Err r) =
     let a = three-most r.number r.place r.length in
     let b = why-most r.number in
     simp length-append (omega arith)
