@@ -10,7 +10,7 @@ use lib.ListN.{length, take, length-append, length-take}
 use lib.Seq.{take_at}
 use Rattle.audit.specs.Cuts.{Progress, behind_part, behind_parts, start, last_watch, Watches}
 use Rattle.audit.specs.Watch.{judged_by}
-use Rattle.audit.specs.declared.Checked.{Checked}
+use Rattle.audit.specs.Audit.{Checked}
 use Rattle.audit.specs.declared.feed.Watched.{Watched}
 use Rattle.audit.specs.declared.watch.Watch.{Watch}
 use Rattle.carry.specs.Pieces.{joined}
