@@ -5,12 +5,11 @@
 
 use intake::read_full;
 use lexer::lex_line;
-use lexitem::answer::Outcome;
 use lexitem::item::LexItem;
 use line::columns::Columns;
 use line::options::Options;
 use sheet::Unwritten;
-use walker::lines::{Step, line};
+use walker::lines::line;
 use walker::step;
 use writer::{write_as_read, write_record};
 
@@ -69,9 +68,8 @@ fn write_places(rt: &impl Print, item: LexItem, text: &[u8]) {
 fn try_line(rt: &impl Print, text: &[u8], mark: u8) {
     let remarks = [1u8; 1000];
     let answer = lex_line(text, 1, Options::PLAIN, &remarks);
-    let outcome = answer.outcome;
-    match outcome {
-        Outcome::Accepted(item) => {
+    match answer.outcome {
+        Ok(item) => {
             if mark == b'/' {
                 write_short(rt, item, text);
             } else if mark == b'=' {
@@ -80,28 +78,26 @@ fn try_line(rt: &impl Print, text: &[u8], mark: u8) {
                 write_again(rt, item, text);
             }
         }
-        Outcome::Refused(_) => put(rt, b"unread\n"),
+        Err(_) => put(rt, b"unread\n"),
     }
 }
 
 fn try_lines(rt: &impl Print, file: &[u8]) {
     let mut at = 0;
     while at < file.len() {
-        let Step::At { start, end, next } = step(file, at) else {
+        let Some(found) = step(file, at) else {
             return;
         };
-        if next <= at {
+        if found.next <= at {
             return;
         }
-        let text = line(file, start, end);
-        if text.len() == 0 {
-            try_line(rt, text, b' ');
-        } else if text[0] == b'/' || text[0] == b'=' {
-            try_line(rt, &text[1..], text[0]);
-        } else {
-            try_line(rt, text, b' ');
+        let text = line(file, found.start, found.end);
+        match text.first() {
+            Some(b'/') => try_line(rt, &text[1..], b'/'),
+            Some(b'=') => try_line(rt, &text[1..], b'='),
+            _ => try_line(rt, text, b' '),
         }
-        at = next;
+        at = found.next;
     }
 }
 
