@@ -6,13 +6,13 @@
 --     3 refused lines                8 whether a line has a CR inside it
 --     4 ATOM and HETATM lines        9 + 3 g how many fields of the group g weren't read, 10 + 3 g and 11 + 3 g the first and the last line with one
 -- A count stops at 2^64-1, and no file has so many lines.
-use Rattle.std.specs.Prelude.{ℕ, ◌+◌, ◌-◌, ◌*◌, ◌^◌, min, Bool, false, cond, not, ◌&&◌, ◌||◌, List, [], ◌∷◌, length, get_or, set, take, eqb, leb, ltb}
+use Rattle.std.specs.Prelude.{ℕ, ◌+◌, ◌-◌, ◌*◌, ◌^◌, min, Bool, false, cond, not, ◌&&◌, ◌||◌, List, [], ◌∷◌, length, get_or, set, take, eqb, leb, ltb, Result, Ok, Err}
 use Rattle.kind.specs.Kind.{number_of}
 use Rattle.kind.specs.declared.Kind.{Kind}
 use Rattle.lexitem.specs.declared.answer.Answer.{Answer}
-use Rattle.lexitem.specs.declared.answer.Outcome.{Outcome}
-use Rattle.lexitem.specs.declared.answer.Outcome.TheVariants.{Accepted, Refused}
 use Rattle.lexitem.specs.declared.fault.LineFaults.{LineFaults}
+use Rattle.lexitem.specs.declared.answer.Refusal.{Refusal}
+use Rattle.lexitem.specs.declared.item.LexItem.{LexItem}
 use Rattle.line.specs.Faults as faults
 use Rattle.line.specs.declared.fault.Fault.{Fault}
 use Rattle.names.specs.Names.{group_of}
@@ -87,9 +87,9 @@ unfoldable pub with_refused : List ℕ → ℕ → List ℕ
 with_refused ws number = set (added ws 3 1) 7 (one (eqb number 4 || eqb number 6))
 
 -- ---- a line with its answer, whose faults know its number and its kind
-abbrev pub entered_by : List ℕ → Outcome → LineFaults → List ℕ
-entered_by ws (Accepted item) fs = with_accepted ws fs.line fs.kind (take fs.count fs.list)
-entered_by ws (Refused r) fs = with_refused ws r.number
+abbrev pub entered_by : List ℕ → Result LexItem Refusal → LineFaults → List ℕ
+entered_by ws (Ok item) fs = with_accepted ws fs.line fs.kind (take fs.count fs.list)
+entered_by ws (Err r) fs = with_refused ws r.number
 
 unfoldable pub entered : List ℕ → List ℕ → Answer → List ℕ
 entered ws l a = entered_by (with_line ws l) a.outcome a.faults

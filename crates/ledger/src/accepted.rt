@@ -1,10 +1,11 @@
 // What is counted of a line that was accepted: by its kind, and by its faults.
-ghost use Rattle.std.specs.Prelude.{◌≡◌, ◌&&◌, ◌<◌, ◌≤◌, min, take};
+ghost use Rattle.std.specs.Prelude.{◌≡◌, ◌&&◌, ◌<◌, take};
 ghost use Rattle.ledger.specs.Ledger as specs;
 
 use crate::words::{add, one, raise};
 use kind::Kind;
 use kind::numbered::number_of;
+use lexitem::fault::LineFaults;
 use line::fault::{Fault, Faults};
 use names::group_of;
 
@@ -23,19 +24,11 @@ fn is_at(fault: Fault, number: usize, low: u16, high: u16) -> bool
     place <= high
 }
 
-// Whether one of the first so many faults of a list is such.
-fn any_at(list: [Fault; Faults::MOST], count: usize, number: usize, low: u16, high: u16) -> bool
-    requires { count ≤ 15 }
-    ensures { result ≡ specs.any (specs.is_at number low high) (take count list) }
+// Whether one of some faults is such.
+fn any_at(faults: &[Fault], number: usize, low: u16, high: u16) -> bool
+    ensures { result ≡ specs.any (specs.is_at number low high) faults.now }
 {
-    let mut i = 0;
-    while i < count {
-        if is_at(list[i], number, low, high) {
-            return true;
-        }
-        i += 1;
-    }
-    false
+    faults.iter().any(|fault| is_at(*fault, number, low, high))
 }
 
 // Whether a kind's number is that of ATOM or HETATM.
@@ -89,50 +82,25 @@ fn enter_fault(ledger: &mut [u64; 69], line: usize, group: usize)
     add(ledger, 9 + 3 * group, 1);
 }
 
-// By the first so many faults of a list.
-fn enter_faults(
-    ledger: &mut [u64; 69],
-    line: usize,
-    kind: Kind,
-    list: [Fault; Faults::MOST],
-    count: usize,
-)
-    requires { count ≤ 15 }
-    ensures { ledger.new ≡ specs.with_faults ledger.old line kind (take count list) }
+// By its faults.
+fn enter_faults(ledger: &mut [u64; 69], line: usize, kind: Kind, faults: &[Fault])
+    ensures { ledger.new ≡ specs.with_faults ledger.old line kind faults.now }
 {
-    let mut i = 0;
-    while i < count {
-        let fault = list[i];
+    for fault in faults {
         enter_fault(ledger, line, group_of(kind, fault.place as usize));
-        i += 1;
     }
 }
 
-// How many faults there are in a list that says that it has so many.
-fn few(count: usize) -> usize
-    ensures { result ≡ min count 15 }
+// What is counted of a line that was accepted. Its list has no more faults than it has room for.
+pub fn enter_accepted(ledger: &mut [u64; 69], faults: LineFaults)
+    ensures { ledger.new ≡ specs.with_accepted ledger.old faults.line faults.kind (take faults.count faults.list) }
 {
-    if Faults::MOST < count {
-        return Faults::MOST;
-    }
-    count
-}
-
-// What is counted of a line that was accepted, whose faults are the first so many of a list.
-pub fn enter_accepted(
-    ledger: &mut [u64; 69],
-    line: usize,
-    kind: Kind,
-    list: [Fault; Faults::MOST],
-    count: usize,
-)
-    ensures { ledger.new ≡ specs.with_accepted ledger.old line kind (take count list) }
-{
-    let n = few(count);
-    let off = any_at(list, n, 2, 38, 46);
-    let cut = one(any_at(list, n, 1, 0, 65535));
-    enter_kind(ledger, number_of(kind), off);
+    let n = faults.count.min(Faults::MOST);
+    let list = &faults.list[..n];
+    let off = any_at(list, 2, 38, 46);
+    let cut = one(any_at(list, 1, 0, 65535));
+    enter_kind(ledger, number_of(faults.kind), off);
     add(ledger, 2, one(0 < n));
     ledger[7] = cut;
-    enter_faults(ledger, line, kind, list, n);
+    enter_faults(ledger, faults.line, faults.kind, list);
 }

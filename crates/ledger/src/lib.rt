@@ -10,23 +10,13 @@ mod words;
 
 use crate::accepted::enter_accepted;
 use crate::words::{add, one, raise};
-use lexitem::answer::{Answer, Outcome};
+use lexitem::answer::Answer;
 
 // Whether there is a CR among the first 1,024 bytes of a line.
 fn has_cr(line: &[u8]) -> bool
     ensures { result ≡ specs.has_cr line.now }
 {
-    let mut i = 0;
-    while i < line.len() {
-        if 1024 <= i {
-            return false;
-        }
-        if line[i] == 13 {
-            return true;
-        }
-        i += 1;
-    }
-    false
+    line.iter().take(1024).any(|b| *b == 13)
 }
 
 // What is counted of any line.
@@ -61,13 +51,9 @@ fn enter_refused(ledger: &mut [u64; 69], number: usize)
 pub fn enter(ledger: &mut [u64; 69], line: &[u8], answer: Answer)
     ensures { ledger.new ≡ specs.entered ledger.old line.now answer }
 {
-    let faults = answer.faults;
-    let kind = faults.kind;
-    let list = faults.list;
-    let outcome = answer.outcome;
     enter_line(ledger, line);
-    match outcome {
-        Outcome::Accepted(_) => { enter_accepted(ledger, faults.line, kind, list, faults.count) },
-        Outcome::Refused(refusal) => enter_refused(ledger, refusal.number),
+    match answer.outcome {
+        Ok(_) => enter_accepted(ledger, answer.faults),
+        Err(refusal) => enter_refused(ledger, refusal.number),
     }
 }

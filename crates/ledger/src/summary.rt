@@ -186,10 +186,8 @@ fn put_group_rows(out: &mut [u8], at: usize, ledger: &[u64; 69]) -> usize
     ensures { page out.new result ≡ put (page out.old at) (specs.group_rows ledger.now 0 20) }
 {
     let mut next = at;
-    let mut g = 0;
-    while g < 20 {
+    for g in 0..20 {
         next = put_group_row(out, next, ledger, g);
-        g += 1;
     }
     next
 }

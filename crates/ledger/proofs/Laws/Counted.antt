@@ -9,6 +9,7 @@ use Prim.Native.Nat.{ℕ, ◌+◌, ◌-◌, ◌*◌, ◌^◌, ◌≤◌, ◌<◌
 use mathlib.Core.Path.{◌≡◌, refl, ap, ◌∙◌}
 use mathlib.Core.Bool.{Bool, true, false, cond, ◌||◌}
 use mathlib.Core.List.{List, [], ◌∷◌}
+use Rattle.std.specs.Prelude.{Result, Ok, Err}
 use native.Mathlib.Omega.{arith}
 use borrow.Author.Tests.{eqb-true, eqb-false}
 use lib.Dec.{eqb, ltb}
@@ -17,9 +18,9 @@ use lib.Seq.{get_or-set_same, get_or-set_other}
 use Rattle.kind.specs.Kind.{number_of}
 use Rattle.kind.specs.declared.Kind.{Kind}
 use Rattle.lexitem.specs.declared.answer.Answer.{Answer}
-use Rattle.lexitem.specs.declared.answer.Outcome.{Outcome}
-use Rattle.lexitem.specs.declared.answer.Outcome.TheVariants.{Accepted, Refused}
 use Rattle.lexitem.specs.declared.fault.LineFaults.{LineFaults}
+use Rattle.lexitem.specs.declared.answer.Refusal.{Refusal}
+use Rattle.lexitem.specs.declared.item.LexItem.{LexItem}
 use Rattle.line.specs.declared.fault.Fault.{Fault}
 use Rattle.names.specs.Names.{group_of}
 use Rattle.ledger.specs.Ledger.{word, added, raised, one, has_cr, is_cut, is_off, with_line, with_kind, with_first, with_fault, with_faults, with_accepted, with_refused, entered_by, entered}
@@ -176,33 +177,33 @@ module _ (ws : List ℕ) (number : ℕ) where
 
 -- ---- a line with its answer
 -- whether it was refused; or how many faults it has
-abbrev pub is_refused : Outcome → Bool
-is_refused (Accepted item) = false
-is_refused (Refused r) = true
+abbrev pub is_refused : Result LexItem Refusal → Bool
+is_refused (Ok item) = false
+is_refused (Err r) = true
 
-abbrev pub faults_by : Outcome → LineFaults → List Fault
-faults_by (Accepted item) fs = take fs.count fs.list
-faults_by (Refused r) fs = []
+abbrev pub faults_by : Result LexItem Refusal → LineFaults → List Fault
+faults_by (Ok item) fs = take fs.count fs.list
+faults_by (Err r) fs = []
 
-by_size : (ws : List ℕ) (o : Outcome) (fs : LineFaults) → length (entered_by ws o fs) ≡ length ws
-by_size ws (Accepted item) fs = accepted-size ws fs.line fs.kind _
-by_size ws (Refused r) fs = refused-size ws r.number
+by_size : (ws : List ℕ) (o : Result LexItem Refusal) (fs : LineFaults) → length (entered_by ws o fs) ≡ length ws
+by_size ws (Ok item) fs = accepted-size ws fs.line fs.kind _
+by_size ws (Err r) fs = refused-size ws r.number
 
-by_lines : (ws : List ℕ) (o : Outcome) (fs : LineFaults) → word (entered_by ws o fs) 0 ≡ word ws 0
-by_lines ws (Accepted item) fs =
+by_lines : (ws : List ℕ) (o : Result LexItem Refusal) (fs : LineFaults) → word (entered_by ws o fs) 0 ≡ word ws 0
+by_lines ws (Ok item) fs =
     accepted-other ws fs.line fs.kind _ 0 (omega arith) (λ z. omega arith) (λ z. omega arith) (λ z. omega arith) (λ z. omega arith) (λ z. omega arith) (λ z. omega arith)
-by_lines ws (Refused r) fs = refused-other ws r.number 0 (λ z. omega arith) (λ z. omega arith)
+by_lines ws (Err r) fs = refused-other ws r.number 0 (λ z. omega arith) (λ z. omega arith)
 
-by_refused : (ws : List ℕ) (o : Outcome) (fs : LineFaults) → length ws ≡ 69
+by_refused : (ws : List ℕ) (o : Result LexItem Refusal) (fs : LineFaults) → length ws ≡ 69
     → word (entered_by ws o fs) 3 ≡ cond (is_refused o) (min (word ws 3 + 1) most) (word ws 3)
-by_refused ws (Accepted item) fs size =
+by_refused ws (Ok item) fs size =
     accepted-other ws fs.line fs.kind _ 3 (omega arith) (λ z. omega arith) (λ z. omega arith) (λ z. omega arith) (λ z. omega arith) (λ z. omega arith) (λ z. omega arith)
-by_refused ws (Refused r) fs size = refused-three ws r.number size
+by_refused ws (Err r) fs size = refused-three ws r.number size
 
-by_faulty : (ws : List ℕ) (o : Outcome) (fs : LineFaults) → length ws ≡ 69 → word ws 2 ≤ most
+by_faulty : (ws : List ℕ) (o : Result LexItem Refusal) (fs : LineFaults) → length ws ≡ 69 → word ws 2 ≤ most
     → word (entered_by ws o fs) 2 ≡ min (word ws 2 + one (ltb 0 (length (faults_by o fs)))) most
-by_faulty ws (Accepted item) fs size few = accepted-faulty ws fs.line fs.kind _ size
-by_faulty ws (Refused r) fs size few = refused-other ws r.number 2 (λ z. omega arith) (λ z. omega arith) ∙ omega arith
+by_faulty ws (Ok item) fs size few = accepted-faulty ws fs.line fs.kind _ size
+by_faulty ws (Err r) fs size few = refused-other ws r.number 2 (λ z. omega arith) (λ z. omega arith) ∙ omega arith
 
 module _ (ws l : List ℕ) (a : Answer) where
   pub entered-size : length (entered ws l a) ≡ length ws

@@ -1,19 +1,20 @@
--- A word with more, and a turn of a loop over the first n of a list.
+-- A word with more, and a turn of a loop over faults.
 --     added_full, added_more          a word that is full then, and one that isn't
---     any_here, any_next, any-end     whether one of them is such: this one is, this one isn't, and there is none left
+--     any-same                        whether one of them is such, as the library says it
 --     faults-next, faults-end         what is counted of faults
 --     take-few                        a list of fifteen has no more
 -- Assumes nothing.
 use Prim.Native.Nat.{ℕ, ◌+◌, ◌-◌, ◌^◌, ◌≤◌, ◌<◌, min}
 use mathlib.Core.Path.{◌≡◌, refl, sym, ◌∙◌}
 use mathlib.Core.Bool.{Bool, true, false}
-use mathlib.Core.List.{List, ◌∷◌}
+use mathlib.Core.List.{List, [], ◌∷◌}
 use native.Mathlib.Numerals.{add-one}
 use native.Mathlib.Omega.{arith}
 use borrow.Author.Tests.{leb-true, leb-false}
-use lib.ListN.{length, take, drop, get_or, set, length-take, drop_of_length-le}
-use lib.Seq.{drop-cons, get_or-take, take_all}
+use lib.ListN.{length, take, drop, get_or, set, drop_of_length-le}
+use lib.Seq.{drop-cons, take_all}
 use lib.Dec.{leb}
+use Rattle.std.specs.List.{list_any}
 use Rattle.kind.specs.declared.Kind.{Kind}
 use Rattle.line.specs.declared.fault.Fault.{Fault}
 use Rattle.names.specs.Names.{group_of}
@@ -28,38 +29,21 @@ module _ (ws : List ℕ) (n more : ℕ) where
   unfolding added
   added_more h = let e : min (get_or ws n 0 + more) (2 ^ 64 - 1) ≡ get_or ws n 0 + more = omega arith in rw e refl
 
--- the first of those that are left
-step : {A : Type 0} (xs : List A) (n i : ℕ) (d : A) → i < n → i < length xs → drop i (take n xs) ≡ get_or xs i d ∷ drop (i + 1) (take n xs)
-step xs n i d h k =
-    rw (add-one i, ← get_or-take n xs i d h) (drop-cons (take n xs) i d (simp length-take (omega arith)))
+-- whether one of them is such, as the library says it
+pub any-same : {A : Type 0} (such : A → Bool) (xs : List A) → list_any such xs ≡ any such xs
+unfolding any
+any-same such [] = refl
+any-same such (x ∷ t) = rw (any-same such t) refl
 
-module _ {A : Type 0} (such : A → Bool) (xs : List A) (n i : ℕ) (v : any such (drop i (take n xs)) ≡ any such (take n xs)) where
-  pub any-end : length xs ≤ i → false ≡ any such (take n xs)
-  unfolding any
-  any-end h = rw (drop_of_length-le (take n xs) {i = i} (simp length-take (omega arith))) at v
-
-  pub any-over : n ≤ i → false ≡ any such (take n xs)
-  unfolding any
-  any-over h = rw (drop_of_length-le (take n xs) {i = i} (simp length-take (omega arith))) at v
-
-  module _ (d : A) (h : i < n) (k : i < length xs) where
-    pub any_here : such (get_or xs i d) ≡ true → true ≡ any such (take n xs)
-    unfolding any
-    any_here e = rw (step xs n i d h k, e) at v
-
-    pub any_next : such (get_or xs i d) ≡ false → any such (drop (i + 1) (take n xs)) ≡ any such (take n xs)
-    unfolding any
-    any_next e = rw (step xs n i d h k, e) at v
-
-module _ (ws : List ℕ) (line : ℕ) (k : Kind) (xs : List Fault) (n i : ℕ) (e : List ℕ) (v : with_faults ws line k (drop i (take n xs)) ≡ e) where
-  pub faults-end : n ≤ i → ws ≡ e
+module _ (ws : List ℕ) (line : ℕ) (k : Kind) (xs : List Fault) (i : ℕ) (e : List ℕ) (v : with_faults ws line k (drop i xs) ≡ e) where
+  pub faults-end : length xs ≤ i → ws ≡ e
   unfolding with_faults
-  faults-end h = rw (drop_of_length-le (take n xs) {i = i} (simp length-take (omega arith))) at v
+  faults-end h = rw (drop_of_length-le xs h) at v
 
-  pub faults-next : (d : Fault) (next : List ℕ) → i < n → i < length xs → next ≡ with_fault ws line (group_of k (get_or xs i d).place)
-      → with_faults next line k (drop (i + 1) (take n xs)) ≡ e
+  pub faults-next : (d : Fault) (next : List ℕ) → i < length xs → next ≡ with_fault ws line (group_of k (get_or xs i d).place)
+      → with_faults next line k (drop (i + 1) xs) ≡ e
   unfolding with_faults
-  faults-next d next h k f = rw f (rw (step xs n i d h k) at v)
+  faults-next d next h f = rw (f, add-one i) (rw (drop-cons xs i d h) at v)
 
 pub take-few : {A : Type 0} (xs : List A) (n : ℕ) → length xs ≡ 15 → take (min n 15) xs ≡ take n xs
 take-few xs n e = go (leb n 15) refl

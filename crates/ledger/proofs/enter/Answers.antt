@@ -3,10 +3,10 @@
 use Rattle.ledger.specs.Ledger.{entered}
 use Rattle.ledger.proofs.enter.Goals as goal
 
-pub returns-in-Accepted : goal.returns-in-Accepted
+pub returns-in-Ok : goal.returns-in-Ok
 unfolding entered
-returns-in-Accepted c = rw c.in-Accepted.is (rw c.enter_line.ensures at c.enter_accepted.ensures)
+returns-in-Ok c = rw c.in-Ok.is (rw c.enter_line.ensures at c.enter_accepted.ensures)
 
-pub returns-in-Refused : goal.returns-in-Refused
+pub returns-in-Err : goal.returns-in-Err
 unfolding entered
-returns-in-Refused c = rw c.in-Refused.is (rw c.enter_line.ensures at c.enter_refused.ensures)
+returns-in-Err c = rw c.in-Err.is (rw c.enter_line.ensures at c.enter_refused.ensures)

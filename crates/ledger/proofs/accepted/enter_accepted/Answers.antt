@@ -7,5 +7,5 @@ use Rattle.ledger.proofs.accepted.enter_accepted.Goals as goal
 pub returns : goal.returns
 returns c =
     let many = c.well_formed in
-    accepted-steps _ _ _ _ _ _ _ _ _ _ _ _ _ _ (omega arith) c.few-n.ensures c.any_at-off.ensures c.any_at.ensures c.one-cut.ensures
+    accepted-steps _ _ _ _ _ _ _ _ _ _ _ _ _ _ (omega arith) c.min-n.ensures c.any_at-off.ensures c.any_at.ensures c.one-cut.ensures
     c.number_of.ensures c.enter_kind.ensures c.one.ensures c.add.ensures c.enter_faults.ensures

@@ -10,6 +10,3 @@ use Rattle.ledger.proofs.summary.put_group_rows.Given as goal
 abbrev pub invariant-loop-g : goal.invariant-loop-g
 invariant-loop-g l =
     (length l.out ≡ length l.initial.out) × (put (page l.out l.next) (group_rows l.ledger l.g (20 - l.g)) ≡ put (page l.initial.out l.at) (group_rows l.ledger 0 20))
-
-abbrev pub decreases-loop-g : goal.decreases-loop-g
-decreases-loop-g l = 20 - l.g
