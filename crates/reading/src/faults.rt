@@ -48,15 +48,12 @@ pub(crate) fn put_faults(out: &mut [u64], faults: LineFaults)
     requires { (31 ≤ length out.old) × (faults.count ≤ 15) × (length (told faults) ≡ faults.count) }
     ensures { out.new ≡ faults_words (told faults) ++ drop (length (faults_words (told faults))) out.old }
 {
-    let count = faults.count;
     let mut next = 1;
-    let mut i = 0;
-    while i < count {
+    for i in 0..faults.count {
         let fault = faults.at(i);
         out[next] = fault.line as u64;
         out[next + 1] = fault_word(fault);
         next += 2;
-        i += 1;
     }
-    out[0] = count as u64;
+    out[0] = faults.count as u64;
 }

@@ -13,7 +13,7 @@ use answers::kinds::kind_word;
 use atom::read::lex_atom;
 use kind::Kind;
 use lexer::{lex_line, read_line_as};
-use lexitem::answer::{Answer, Outcome};
+use lexitem::answer::Answer;
 use lexitem::fault::LineFaults;
 use packing::{options_of, packed};
 use wording::{put_atom_fields, put_fields};
@@ -99,10 +99,9 @@ fn read_any(
     ensures { specs.Reads line.now (specs.answered kind (input_of line.now number options remarks.now)) fields.old faults.old result fields.new faults.new }
 {
     let answer = answer_of(line, number, options, remarks, kind);
-    let outcome = answer.outcome;
-    match outcome {
-        Outcome::Refused(refusal) => packed(refusal),
-        Outcome::Accepted(item) => {
+    match answer.outcome {
+        Err(refusal) => packed(refusal),
+        Ok(item) => {
             let few = room_refusal(fields.len(), faults.len());
             if few != 0 {
                 return few;

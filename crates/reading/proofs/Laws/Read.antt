@@ -13,13 +13,15 @@ use Prim.Native.Nat.{ℕ, suc, ◌-◌, ◌^◌, ◌≤◌, ◌<◌}
 use mathlib.Core.Path.{◌≡◌, refl, sym, ap, ◌∙◌}
 use mathlib.Core.Bool.{Bool, true, false, cond, not, ◌&&◌, ◌||◌}
 use mathlib.Core.List.{List, [], ◌∷◌, map}
+use Rattle.std.specs.Prelude.{Result, Ok, Err}
 use native.Mathlib.Omega.{arith}
-use borrow.Author.Tests.{ltb-false, le-ltb, eq-eqb, eqb-false}
+use borrow.Author.Tests.{ltb-false, le-ltb, eq-eqb}
 use lib.ListN.{length, get_or, set, drop}
 use lib.Dec.{ltb, eqb}
 use Rattle.answers.specs.Ask.{kind_word}
 use Rattle.atom.specs.Atom.{got_atom}
-use Rattle.atom.specs.declared.read.GotAtom.{GotAtom}
+use Rattle.atom.specs.declared.record.Atom.{Atom as AtomRecord}
+use Rattle.line.specs.declared.fault.Got.{Got}
 use Rattle.kind.specs.Kind.{Named, names, number_of, no_kind}
 use Rattle.kind.proofs.Laws.Number.{number-tells}
 use Rattle.kind.specs.declared.Kind.{Kind}
@@ -30,17 +32,14 @@ use Rattle.lexitem.specs.Fault.{told}
 use Rattle.layout.specs.Each.{each}
 use Rattle.lexitem.specs.declared.fault.LineFault.{LineFault}
 use Rattle.lexitem.specs.declared.answer.Answer.{Answer}
-use Rattle.lexitem.specs.declared.answer.Outcome.{Outcome}
-use Rattle.lexitem.specs.declared.answer.Outcome.TheVariants.{Accepted, Refused}
 use Rattle.lexitem.specs.declared.answer.Refusal.{Refusal}
 use Rattle.lexitem.specs.declared.item.LexItem.{LexItem}
 use Rattle.lexitem.proofs.Laws.Fault.{stamped-length}
 use Rattle.lexitem.proofs.Laws.Few.{faults_fifteen}
 use Rattle.lexer.specs.Lexed.{refused, accepted, first_of, lexed, lexed_as, kind_asked}
-use Rattle.lexer.specs.declared.Asked.TheVariants as asked
 use Rattle.lexer.specs.Refusals.{Input, Asking, kind, given, faults, plain, excess, missing, tests, header_cut, remark_long, another, reads, line_tests}
 use Rattle.lexer.specs.Refusals.Asking.{its_record, record_as}
-use Rattle.lexer.specs.Steps.{first_refusal, entry_tests, read_as}
+use Rattle.lexer.specs.Steps.{passed, after, entry_tests, read_as}
 use Rattle.lexer.proofs.Laws.Accepted.{accepted-told, accepted-count}
 use Rattle.lexer.proofs.Laws.Plain.{plain-le}
 use Rattle.lexer.proofs.Laws.Tests.{lexed-split, as_split, asked-split}
@@ -69,40 +68,39 @@ pub kind-beyond : (n : ℕ) → 28 ≤ n → Scale 3 ≡ kind_numbered n
 kind-beyond n h = beyond names n (omega arith)
 
 -- ---- accepted lines
-either : {x : LexItem} (i : Input) (b c : Bool) (all : Answer) (r s : Refusal)
-    → (cond b (cond c all (refused i r)) (refused i s)).outcome ≡ Accepted x
-    → cond b (cond c all (refused i r)) (refused i s) ≡ cond b all (refused i s)
-either i true true all r s e = refl
-either i true false all r s e = cc
-either i false c all r s e = cc
+either : {x : LexItem} (i : Input) (p : Result (Unit {0}) Refusal) (c : Bool) (all : Answer) (r : Refusal)
+    → (after p (refused i) (cond c all (refused i r))).outcome ≡ Ok x
+    → after p (refused i) (cond c all (refused i r)) ≡ after p (refused i) all
+either i (Ok none) true all r e = refl
+either i (Ok none) false all r e = cc
+either i (Err s) c all r e = refl
 
-pub as_lexed : (k : Kind) (i : Input) (x : LexItem) → (lexed_as k i).outcome ≡ Accepted x → lexed_as k i ≡ lexed i
+pub as_lexed : (k : Kind) (i : Input) (x : LexItem) → (lexed_as k i).outcome ≡ Ok x → lexed_as k i ≡ lexed i
 as_lexed k i x e =
-    let first = first_refusal (entry_tests i.line i.remarks) in
     rw (lexed-split i, as_split i k)
-    (either i (eqb first.number 0) (eqb (number_of k) (number_of (kind i))) (read_as i.number (kind i) (given i)) (refusal 15 0 0) first (rw (as_split i k) at e))
+    (either i (passed (entry_tests i.line i.remarks)) (eqb (number_of k) (number_of (kind i))) (read_as i.number (kind i) (given i)) (refusal 15 0 0) (rw (as_split i k) at e))
 
-pub answered-lexed : (n : ℕ) (i : Input) (x : LexItem) → (answered n i).outcome ≡ Accepted x → answered n i ≡ lexed i
+pub answered-lexed : (n : ℕ) (i : Input) (x : LexItem) → (answered n i).outcome ≡ Ok x → answered n i ≡ lexed i
 unfolding answered
 answered-lexed n i x = go (eqb n (2 ^ 32 - 1))
   where
-    go : (b : Bool) → (cond b (lexed i) (lexed_as (kind_numbered n) i)).outcome ≡ Accepted x → cond b (lexed i) (lexed_as (kind_numbered n) i) ≡ lexed i
+    go : (b : Bool) → (cond b (lexed i) (lexed_as (kind_numbered n) i)).outcome ≡ Ok x → cond b (lexed i) (lexed_as (kind_numbered n) i) ≡ lexed i
     go true e = refl
     go false e = as_lexed (kind_numbered n) i x e
 
-pub few-faults : (n : ℕ) (i : Input) (a : Answer) (x : LexItem) → a ≡ answered n i → a.outcome ≡ Accepted x
+pub few-faults : (n : ℕ) (i : Input) (a : Answer) (x : LexItem) → a ≡ answered n i → a.outcome ≡ Ok x
     → (a.faults.count ≤ 15) × (length (told a.faults) ≡ a.faults.count)
 few-faults n i a x e o =
     let same : a ≡ lexed i = e ∙ answered-lexed n i x (ap (λ (b : Answer). b.outcome) (sym e) ∙ o) in
-    let so : (lexed i).outcome ≡ Accepted x = ap (λ (b : Answer). b.outcome) (sym same) ∙ o in
+    let so : (lexed i).outcome ≡ Ok x = ap (λ (b : Answer). b.outcome) (sym same) ∙ o in
     let count = accepted-count i x so in
     let few = faults_fifteen (kind i) (given i) in
     rw same (omega arith, rw (accepted-told i x so, accepted-count i x so) (stamped-length i.number (kind i) (faults i)))
 
 -- ---- refusals
-abbrev Small : Outcome → Type 0
-Small (Accepted x) = Unit {0}
-Small (Refused r) = packing.Small r
+abbrev Small : Result LexItem Refusal → Type 0
+Small (Ok x) = Unit {0}
+Small (Err r) = packing.Small r
 
 missing-few : (k : Kind) (l : List ℕ) → missing (bound_of k) l ≤ 55
 missing-few Empty l = omega arith
@@ -159,7 +157,7 @@ first_small a i =
         let n = few refl in let m = missing-few (kind i) l in (omega arith, omega arith, omega arith)
     go false false false false false false false few = tt
 
-pub small : (n : ℕ) (i : Input) (a : Answer) (r : Refusal) → a ≡ answered n i → a.outcome ≡ Refused r
+pub small : (n : ℕ) (i : Input) (a : Answer) (r : Refusal) → a ≡ answered n i → a.outcome ≡ Err r
     → (r.number < 65536) × (r.place < 65536) × (r.length < 4294967296)
 unfolding answered lexed lexed_as
 small n i a r e o = rw (ap (λ (b : Answer). b.outcome) (sym e) ∙ o) at (go (eqb n (2 ^ 32 - 1)))
@@ -195,35 +193,45 @@ none-put (f ∷ fs) other e h = absurd (omega arith)
 -- ---- by what is answered
 module _ (n : ℕ) (i : Input) (a : Answer) (l old other : List ℕ) (e : a ≡ answered n i) where
   -- what is left where the outcome is known
-  left : (o : Outcome) (w : ℕ) (new others : List ℕ) → a.outcome ≡ o → w ≡ read_word o (length old) (length other)
+  left : (o : Result LexItem Refusal) (w : ℕ) (new others : List ℕ) → a.outcome ≡ o → w ≡ read_word o (length old) (length other)
       → new ≡ fields_left o l old other → others ≡ faults_left a o old other → Reads l (answered n i) old other w new others
   left o w new others is p q r =
       rw (← e)
       (record {
-        answer = p ∙ ap (λ (u : Outcome). read_word u (length old) (length other)) (sym is);
-        fields = q ∙ ap (λ (u : Outcome). fields_left u l old other) (sym is);
-        faults = r ∙ ap (λ (u : Outcome). faults_left a u old other) (sym is);
+        answer = p ∙ ap (λ (u : Result LexItem Refusal). read_word u (length old) (length other)) (sym is);
+        fields = q ∙ ap (λ (u : Result LexItem Refusal). fields_left u l old other) (sym is);
+        faults = r ∙ ap (λ (u : Result LexItem Refusal). faults_left a u old other) (sym is);
       })
 
-  pub reads-refused : (r : Refusal) (w : ℕ) → a.outcome ≡ Refused r → w ≡ read_word (Refused r) (length old) (length other)
+  pub reads-refused : (r : Refusal) (w : ℕ) → a.outcome ≡ Err r → w ≡ read_word (Err r) (length old) (length other)
       → Reads l (answered n i) old other w old other
-  reads-refused r w o p = left (Refused r) w old other o p refl refl
+  reads-refused r w o p = left (Err r) w old other o p refl refl
 
-  module _ (x : LexItem) (o : a.outcome ≡ Accepted x) where
+  module _ (x : LexItem) (o : a.outcome ≡ Ok x) where
     pub reads-few : (w : ℕ) → w ≡ room_word (length old) (length other) → (w ≡ 0 → ⊥) → Reads l (answered n i) old other w old other
-    reads-few w p some = let few = too_few (length old) (length other) w p some in left (Accepted x) w old other o p (rw few refl) (rw few refl)
+    reads-few w p some = let few = too_few (length old) (length other) w p some in left (Ok x) w old other o p (rw few refl) (rw few refl)
 
     module _ (new : List ℕ) (h : 34 ≤ length old) (k : 31 ≤ length other) (put : Fills old (field_words l x) new) where
       pub reads_all : (others : List ℕ) → others ≡ over (faults_words (told a.faults)) other → Reads l (answered n i) old other 0 new others
       reads_all others q =
           let b = le-ltb (length old) 34 h in
           let c = le-ltb (length other) 31 k in
-          left (Accepted x) 0 new others o (rw (b, c) refl) (rw (b, c) (put.leaves ∙ rw b refl)) (rw (b, c) q)
+          left (Ok x) 0 new others o (rw (b, c) refl) (rw (b, c) (put.leaves ∙ rw b refl)) (rw (b, c) q)
 
       pub reads_none : a.faults.count ≡ 0 → length (told a.faults) ≡ a.faults.count → Reads l (answered n i) old other 0 new (set other 0 0)
       reads_none none many = reads_all (set other 0 0) (none-put (told a.faults) other (many ∙ none) (omega arith))
 
 -- ---- an atom
+-- a refusal of a line's bytes has a number
+refused-first : (b c : Bool) (x y r : Refusal) → 2 ≤ x.number → 2 ≤ y.number
+    → ◌≡◌ {A = Result (Unit {0}) Refusal} (cond b (Err x) (cond c (Err y) (Ok tt))) (Err r) → 2 ≤ r.number
+refused-first true c x y r h k e = let z : x ≡ r = cc in rw (← z) h
+refused-first false true x y r h k e = let z : y ≡ r = cc in rw (← z) k
+refused-first false false x y r h k e = cc
+
+line-refused : (l : List ℕ) (r : Refusal) → passed (line_tests l) ≡ Err r → 2 ≤ r.number
+line-refused l r e = refused-first (ltb 1024 (length l)) (ltb (plain l) (length l)) _ _ r (omega arith) (omega arith) e
+
 module _ (i : Input) where
   by_atom : (hetero : Bool) → read_as i.number (atom_kind hetero) (given i) ≡ atom_answer hetero i.options.exponents i.number i.line
   unfolding read_as
@@ -237,20 +245,17 @@ module _ (i : Input) where
   pub atom-answered : (w : ℕ) (hetero : Bool) → length i.remarks ≡ 1000 → w ≡ kind_word (kind_asked i.line i.options) → w ≡ number_of (atom_kind hetero)
       → answered (2 ^ 32 - 1) i ≡ atom_answer hetero i.options.exponents i.number i.line
   unfolding answered
-  atom-answered w hetero table word is = lexed-split i ∙ rw (eq-eqb (length i.remarks) 1000 table) (go (eqb first.number 0) refl told)
+  atom-answered w hetero table word is = lexed-split i ∙ rw (eq-eqb (length i.remarks) 1000 table) (go (passed (line_tests i.line)) refl told)
     where
-      first : Refusal
-      first = first_refusal (line_tests i.line)
-
-      told : kind_word (cond (eqb first.number 0) (asked.Is (kind i)) (asked.Refused first)) ≡ number_of (atom_kind hetero)
+      told : kind_word (after (passed (line_tests i.line)) Err (Ok (kind i))) ≡ number_of (atom_kind hetero)
       told = ap kind_word (sym (asked-split i.line i.options)) ∙ sym word ∙ is
 
-      go : (b : Bool) → eqb first.number 0 ≡ b → kind_word (cond b (asked.Is (kind i)) (asked.Refused first)) ≡ number_of (atom_kind hetero)
-          → cond b (read_as i.number (kind i) (given i)) (refused i first) ≡ atom_answer hetero i.options.exponents i.number i.line
-      go true e k = rw (number-tells (kind i) (atom_kind hetero) (few-kinds hetero).0 k) (by_atom hetero)
-      go false e k = absurd (let few = (few-kinds hetero).1 in omega (arith, eqb-false first.number 0 e))
+      go : (p : Result (Unit {0}) Refusal) → passed (line_tests i.line) ≡ p → kind_word (after p Err (Ok (kind i))) ≡ number_of (atom_kind hetero)
+          → after p (refused i) (read_as i.number (kind i) (given i)) ≡ atom_answer hetero i.options.exponents i.number i.line
+      go (Ok none) e k = rw (number-tells (kind i) (atom_kind hetero) (few-kinds hetero).0 k) (by_atom hetero)
+      go (Err r) e k = absurd (let few = (few-kinds hetero).1 in omega (arith, line-refused i.line r e))
 
-  pub atom-from : (n : ℕ) (hetero : Bool) (got : GotAtom) (options : Options) → got ≡ got_atom hetero (taking options.exponents i.line) → options ≡ i.options
+  pub atom-from : (n : ℕ) (hetero : Bool) (got : Got AtomRecord) (options : Options) → got ≡ got_atom hetero (taking options.exponents i.line) → options ≡ i.options
       → answered n i ≡ atom_answer hetero i.options.exponents i.number i.line → answer_from hetero i.number got ≡ answered n i
   atom-from n hetero got options is o so =
       ap (answer_from hetero i.number) (is ∙ ap (λ (w : Options). got_atom hetero (taking w.exponents i.line)) o) ∙ sym so

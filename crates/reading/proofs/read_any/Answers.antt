@@ -8,7 +8,7 @@ use Rattle.reading.proofs.Laws.Read.{small, few-faults, room-enough, reads-refus
 use Rattle.reading.proofs.read_any.Goals as goal
 
 pub returns-then-few-ne0 : goal.returns-then-few-ne0
-returns-then-few-ne0 c = reads-few _ _ _ _ _ _ c.answer_of-answer.ensures _ c.in-Accepted.is _ c.room_refusal-few.ensures c.if-few-ne0.true
+returns-then-few-ne0 c = reads-few _ _ _ _ _ _ c.answer_of-answer.ensures _ c.in-Ok.is _ c.room_refusal-few.ensures c.if-few-ne0.true
 
 pub bounds-faults-0 : goal.bounds-faults-0
 bounds-faults-0 c =
@@ -21,20 +21,20 @@ returns-then-answer-eq0 c =
     let a = c.args in
     let room = room-enough (length a.fields.now) (length a.faults.now) _ c.room_refusal-few.ensures c.if-few-ne0.false in
     let said = c.answer_of-answer.ensures in
-    let accepted = c.in-Accepted.is in
+    let accepted = c.in-Ok.is in
     reads_none _ _ _ _ _ _ said _ accepted _ room.0 room.1 c.put_fields.ensures c.if-answer-eq0.true (few-faults _ _ _ _ said accepted).1
 
 pub put_faults-requires : goal.put_faults-requires
 put_faults-requires c =
     let a = c.args in
     let room = room-enough (length a.fields.now) (length a.faults.now) _ c.room_refusal-few.ensures c.if-few-ne0.false in
-    let few = few-faults _ _ _ _ c.answer_of-answer.ensures c.in-Accepted.is in
+    let few = few-faults _ _ _ _ c.answer_of-answer.ensures c.in-Ok.is in
     (room.1, few.0, few.1)
 
-pub returns-in-Refused : goal.returns-in-Refused
-returns-in-Refused c =
+pub returns-in-Err : goal.returns-in-Err
+returns-in-Err c =
     let said = c.answer_of-answer.ensures in
-    let refused = c.in-Refused.is in
+    let refused = c.in-Err.is in
     reads-refused _ _ _ _ _ _ said _ _ refused (c.packed.ensures ∙ packed-small _ (small _ _ _ _ said refused))
 
 pub returns-else-answer-eq0 : goal.returns-else-answer-eq0
@@ -42,5 +42,5 @@ returns-else-answer-eq0 c =
     let a = c.args in
     let room = room-enough (length a.fields.now) (length a.faults.now) _ c.room_refusal-few.ensures c.if-few-ne0.false in
     let said = c.answer_of-answer.ensures in
-    let accepted = c.in-Accepted.is in
+    let accepted = c.in-Ok.is in
     reads_all _ _ _ _ _ _ said _ accepted _ room.0 room.1 c.put_fields.ensures _ c.put_faults.ensures

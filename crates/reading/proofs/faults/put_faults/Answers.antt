@@ -20,7 +20,7 @@ none = record { line = 0; kind = Empty; fault = blank_fault }
 
 pub loop-i-init : goal.loop-i-init
 unfolding each
-loop-i-init c = (omega arith, refl, omega arith, refl, puts_none _ _)
+loop-i-init c = (refl, omega arith, puts_none _ _)
 
 pub bounds-out-next : goal.bounds-out-next
 bounds-out-next c =
@@ -43,11 +43,9 @@ loop-i-preserved c =
     let here = c.loop-i-test.true in
     let room = c.requires in
     let put = puts-fault l.out l.next _ _ _ (c.at-fault.ensures ∙ told_at a.faults l.i none (omega arith)) c.fault_word.ensures in (
+      length-set (set l.out l.next _) _ _ ∙ length-set l.out l.next _ ∙ l.invariant.0,
       omega arith,
-      length-set (set l.out l.next _) _ _ ∙ length-set l.out l.next _ ∙ l.invariant.1,
-      omega arith,
-      refl,
-      puts-next fault_words (told a.faults) _ _ l.i none _ _ _ _ (omega arith) l.invariant.4 put,
+      puts-next fault_words (told a.faults) _ _ l.i none _ _ _ _ (omega arith) l.invariant.2 put,
     )
 
 pub bounds-out-0 : goal.bounds-out-0
@@ -57,7 +55,7 @@ bounds-out-0 c =
     omega arith
 
 pub shape_of-out : goal.shape_of-out
-shape_of-out c = length-set c.loop-i.out 0 _ ∙ c.loop-i.invariant.1
+shape_of-out c = length-set c.loop-i.out 0 _ ∙ c.loop-i.invariant.0
 
 pub returns : goal.returns
 unfolding faults_words
@@ -66,6 +64,6 @@ returns c =
     let l = c.loop-i in
     let room = c.requires in
     let done = c.loop-i-test.false in
-    let all = puts-all fault_words (told a.faults) a.out.now 1 l.i l.out l.next (omega arith) l.invariant.4 in
+    let all = puts-all fault_words (told a.faults) a.out.now 1 l.i l.out l.next (omega arith) l.invariant.2 in
     let far = all.behind in
     rw c.requires.2 (front-one a.out.now l.out (each fault_words (told a.faults)) l.next a.faults.count (omega arith) all)

@@ -1,6 +1,6 @@
 -- `reading::putput_faults` meets its contract. The loop's invariant: the words of the faults before i are put behind the place of their number.
 -- Assumes nothing.
-use Prim.Native.Nat.{◌+◌, ◌-◌, ◌*◌, ◌≤◌}
+use Prim.Native.Nat.{◌+◌, ◌*◌}
 use mathlib.Core.Path.{◌≡◌}
 use lib.ListN.{length, take}
 use Rattle.layout.specs.Each.{each}
@@ -11,7 +11,4 @@ use Rattle.reading.proofs.faults.put_faults.Given as goal
 
 abbrev pub invariant-loop-i : goal.invariant-loop-i
 invariant-loop-i l =
-    (l.i ≤ l.count) × (length l.out ≡ length l.initial.out) × (l.next ≡ 1 + 2 * l.i) × (l.count ≡ l.faults.count) × Puts l.initial.out 1 (each fault_words (take l.i (told l.faults))) l.next l.out
-
-abbrev pub decreases-loop-i : goal.decreases-loop-i
-decreases-loop-i l = l.count - l.i
+    (length l.out ≡ length l.initial.out) × (l.next ≡ 1 + 2 * l.i) × Puts l.initial.out 1 (each fault_words (take l.i (told l.faults))) l.next l.out
