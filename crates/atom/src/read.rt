@@ -212,20 +212,22 @@ fn quick_atom(line: &[u8], hetero: bool) -> Option<Atom>
 }
 
 // A line that ends before the element has faults, and isn't read twice. A plain decimal is the same with exponents and without, so the same quick
-// reading serves both.
+// reading serves both. What was noted goes by a name, and no match ends the function: either would copy the record once more.
 pub fn lex_atom(line: &[u8], hetero: bool, exponents: bool) -> Got<Atom>
     ensures { result ≡ specs.got_atom hetero (taking exponents line.now) }
 {
     if line.len() < Basics::ELEMENT.end as usize {
-        return lex_atom_noted(line, hetero, exponents);
+        let noted = lex_atom_noted(line, hetero, exponents);
+        return noted;
     }
-    match quick_atom(line, hetero) {
-        Some(value) => Got {
+    if let Some(value) = quick_atom(line, hetero) {
+        return Got {
             value,
             faults: Faults::none(),
-        },
-        None => lex_atom_noted(line, hetero, exponents),
+        };
     }
+    let noted = lex_atom_noted(line, hetero, exponents);
+    noted
 }
 
 fn lex_factors(line: &[u8], faults: Faults) -> Got<Factors>

@@ -40,7 +40,9 @@ fn number_fault(line: &[u8], sort: Sort, at: Columns) -> Fault
     wrong(sort, at)
 }
 
-// Columns that the line doesn't reach are read as the empty part, which says no number.
+// Columns that the line doesn't reach are read as the empty part, which says no number. As a call of its own it keeps those small that come here
+// only where a word says nothing.
+#[inline(never)]
 pub fn fine_unsigned(line: &[u8], at: Columns) -> Option<u64>
     ensures { result ≡ specs.fine_unsigned line.now at }
 {
@@ -55,6 +57,7 @@ pub fn unsigned(line: &[u8], at: Columns, faults: Faults) -> Got<u64>
     })
 }
 
+#[inline(never)]
 pub fn fine_signed(line: &[u8], at: Columns) -> Option<i64>
     ensures { result ≡ specs.fine_signed line.now at }
 {
