@@ -10,6 +10,7 @@ pub fn read_full(input: &mut impl Read, space: &mut [u8]) -> usize
     ensures { result ≤ length space.new }
 {
     let mut done = 0;
+    // No iterator counts this: each read says how far it comes.
     while done < space.len() {
         let Ok(n) = input.read(&mut space[done..]) else {
             return done;

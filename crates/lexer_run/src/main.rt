@@ -2,65 +2,57 @@
 // file `stdout` was worked out apart from this program.
 #![tactic(auto)]
 
-ghost use Rattle.std.specs.Prelude.{◌+◌, ◌≤◌};
+ghost use Rattle.std.specs.Prelude.{◌+◌, ◌≤◌, IfOk};
 
 use intake::read_full;
 use report::fill::put_line;
-use walker::lines::{Step, line};
+use std::io::Result;
+use walker::lines::line;
 use walker::step;
 
 // Prints a line's report, in a space where the longest has room.
-fn print_line(rt: &impl Print, text: &[u8], number: usize) {
+fn print_line(rt: &impl Print, text: &[u8], number: usize) -> Result<()> {
     let mut space = [0u8; 4096];
     let n = put_line(text, number, &mut space);
-    let _ = rt.write_all(&space[..n]);
+    rt.write_all(&space[..n])
 }
 
 // Every cut of a line, the first having the number, and the number behind the last one's.
-fn print_cuts(rt: &impl Print, text: &[u8], number: usize) -> usize
+fn print_cuts(rt: &impl Print, text: &[u8], number: usize) -> Result<usize>
     requires { number ≤ 6000000 }
-    ensures { result ≤ number + 82 }
+    ensures { IfOk result (λ next. next ≤ number + 82) }
 {
-    let mut n = 0;
-    while n < 82 {
-        if text.len() < n {
-            return number + n;
-        }
-        print_line(rt, &text[..n], number + n);
-        n += 1;
+    let cuts = text.len().min(81);
+    for n in 0..=cuts {
+        print_line(rt, &text[..n], number + n)?;
     }
-    number + n
+    Ok(number + cuts + 1)
 }
 
-fn print_lines(rt: &impl Print, file: &[u8]) {
+fn print_lines(rt: &impl Print, file: &[u8]) -> Result<()> {
     let mut at = 0;
     let mut number = 1;
-    while at < file.len() {
+    for _ in 0..file.len() {
         if 5000000 < number {
-            return;
+            return Ok(());
         }
-        let Step::At { start, end, next } = step(file, at) else {
-            return;
+        let Some(found) = step(file, at) else {
+            return Ok(());
         };
-        if next <= at {
-            return;
-        }
-        let text = line(file, start, end);
-        if text.len() == 0 {
-            print_line(rt, text, number);
-            number += 1;
-        } else if text[0] == b'/' {
-            number = print_cuts(rt, &text[1..], number);
+        let text = line(file, found.start, found.end);
+        if let Some(text) = text.strip_prefix(b"/") {
+            number = print_cuts(rt, text, number)?;
         } else {
-            print_line(rt, text, number);
+            print_line(rt, text, number)?;
             number += 1;
         }
-        at = next;
+        at = found.next;
     }
+    Ok(())
 }
 
 fn main(rt: HostRuntime) {
     let mut space = [0u8; 65536];
     let n = read_full(&mut rt.stdin(), &mut space);
-    print_lines(&rt, &space[..n]);
+    let _ = print_lines(&rt, &space[..n]);
 }

@@ -34,6 +34,7 @@ pub fn write_part(
     let mut rows = [0u8; 65536];
     let mut h = held;
     let mut at = 0;
+    // No iterator counts this: each turn says how far it comes.
     while at < part.len() {
         let turned = turn(h, kept, part, at, &mut out, &mut rows);
         hand_over(output, errors, &out[..turned.n], &rows[..turned.rows])?;

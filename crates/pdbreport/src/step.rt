@@ -46,6 +46,7 @@ pub fn take_part(
 {
     let mut h = held;
     let mut at = 0;
+    // No iterator counts this: each step says how far it comes.
     while at < part.len() {
         let took = step(rt, h, kept, ledger, part, at)?;
         h = took.held;

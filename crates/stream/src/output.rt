@@ -48,6 +48,7 @@ pub fn print_part(
     let mut h = held;
     let mut at = 0;
     let mut done = 0;
+    // No iterator counts this: each turn says how far it comes.
     while at < part.len() {
         let fed = feed(h, kept, part, at, &mut space);
         let n = fed.n;
