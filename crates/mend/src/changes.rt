@@ -25,18 +25,19 @@ struct Run {
     n: usize,
 }
 
-// One byte further: a byte below 128 ends the run before it.
-fn step(changes: &mut [u64], run: Run, at: usize, b: u8) -> Run
-    requires { (run.count ≤ at) × (run.n ≤ at) × (at ≤ 1024) }
-    ensures { (result.n ≡ cond (ltb b 128) 0 (run.n + 1)) × (specs.notes changes.new result.count ≡ specs.stepped (specs.notes changes.old run.count) at run.n b) × (result.count ≤ run.count + 1) }
-{
-    let count = run.count;
-    let n = run.n;
-    if b < 128 {
-        let next = put_change(changes, count, 1, at, n);
-        return Run { count: next, n: 0 };
+impl Run {
+    // One byte further: a byte below 128 ends the run before it.
+    fn step(self, changes: &mut [u64], at: usize, b: u8) -> Run
+        requires { (self.count ≤ at) × (self.n ≤ at) × (at ≤ 1024) }
+        ensures { (result.n ≡ cond (ltb b 128) 0 (self.n + 1)) × (specs.notes changes.new result.count ≡ specs.stepped (specs.notes changes.old self.count) at self.n b) × (result.count ≤ self.count + 1) }
+    {
+        let Run { count, n } = self;
+        if b < 128 {
+            let next = put_change(changes, count, 1, at, n);
+            return Run { count: next, n: 0 };
+        }
+        Run { count, n: n + 1 }
     }
-    Run { count, n: n + 1 }
 }
 
 // The runs of bytes of 128 or more.
@@ -45,12 +46,10 @@ fn note_runs(line: &[u8], changes: &mut [u64]) -> usize
     ensures { specs.notes changes.new result ≡ specs.note_all (specs.notes changes.old 0) (specs.runs 0 0 line.now) }
 {
     let mut run = Run { count: 0, n: 0 };
-    let mut i = 0;
-    while i < line.len() {
-        run = step(changes, run, i, line[i]);
-        i += 1;
+    for (i, b) in line.iter().enumerate() {
+        run = run.step(changes, i, *b);
     }
-    put_change(changes, run.count, 1, i, run.n)
+    put_change(changes, run.count, 1, line.len(), run.n)
 }
 
 // All changes of a line, with so many blanks behind it; how many they are.

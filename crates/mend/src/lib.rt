@@ -29,10 +29,8 @@ fn put_line(line: &[u8], out: &mut [u8])
     requires { length line.now ≤ length out.old }
     ensures { out.new ≡ sets out.old 0 (questioned line.now) }
 {
-    let mut i = 0;
-    while i < line.len() {
-        out[i] = mended_byte(line[i]);
-        i += 1;
+    for (i, b) in line.iter().enumerate() {
+        out[i] = mended_byte(*b);
     }
 }
 
@@ -41,11 +39,7 @@ fn put_blanks(out: &mut [u8], at: usize, n: usize)
     requires { at + n ≤ length out.old }
     ensures { out.new ≡ sets out.old at (replicate n 32) }
 {
-    let mut i = 0;
-    while i < n {
-        out[at + i] = 32;
-        i += 1;
-    }
+    out[at..at + n].fill(32);
 }
 
 // The mended line, at the front of the output.
@@ -57,38 +51,40 @@ fn put_mended(line: &[u8], out: &mut [u8], pad: usize)
     put_blanks(out, line.len(), pad);
 }
 
-// The refusal of a line that is mended into so many bytes; a number of 0 says that there is none.
-pub fn refusal_of(line: &[u8], room: usize) -> Refusal
+// The refusal of a line that is mended into so many bytes, or None.
+pub fn refusal_of(line: &[u8], room: usize) -> Option<Refusal>
     ensures { result ≡ specs.refusal_of line.now room }
 {
     let n = line.len();
     if 1024 < n {
-        return Refusal::new(2, 1024, excess(n));
+        return Some(Refusal::new(2, 1024, excess(n)));
     }
     let size = n + padding(line);
     if room < size {
-        return Refusal::new(8, 0, size);
+        return Some(Refusal::new(8, 0, size));
     }
-    Refusal::new(0, 0, 0)
+    None
 }
 
-// What mending answers: the length of the mended line and how many changes there are, or why nothing was done.
+// The length of the mended line, and how many changes there are.
 #[derive(Clone, Copy)]
-pub enum Mended {
-    Done(usize, usize),
-    Refused(Refusal),
+pub struct Mended {
+    pub size: usize,
+    pub changes: usize,
 }
 
-// Mends a line into lent bytes, with its changes in lent words, of which 512 always suffice.
-pub fn mend_line(line: &[u8], out: &mut [u8], changes: &mut [u64]) -> Mended
+// Mends a line into lent bytes, with its changes in lent words, of which 512 always suffice; or says why nothing is done.
+pub fn mend_line(line: &[u8], out: &mut [u8], changes: &mut [u64]) -> Result<Mended, Refusal>
     ensures { specs.Mends line.now out.old changes.old result out.new changes.new }
 {
-    let why = refusal_of(line, out.len());
-    if why.number != 0 {
-        return Mended::Refused(why);
+    if let Some(why) = refusal_of(line, out.len()) {
+        return Err(why);
     }
     let pad = padding(line);
     put_mended(line, out, pad);
     let count = note_changes(line, changes, pad);
-    Mended::Done(line.len() + pad, count)
+    Ok(Mended {
+        size: line.len() + pad,
+        changes: count,
+    })
 }

@@ -13,15 +13,11 @@ use packing::packed;
 fn lacking(line: &[u8], room: usize) -> Refusal
     ensures { result ≡ specs.or_few_words (refusal_of line.now room) }
 {
-    let why = refusal_of(line, room);
-    if why.number == 0 {
-        return Refusal::new(8, 0, 514);
-    }
-    why
+    refusal_of(line, room).unwrap_or(Refusal::new(8, 0, 514))
 }
 
 // The changes stand behind two words, which stay.
-fn mend_behind(line: &[u8], out: &mut [u8], changes: &mut [u64]) -> Mended
+fn mend_behind(line: &[u8], out: &mut [u8], changes: &mut [u64]) -> Result<Mended, Refusal>
     requires { 2 ≤ length changes.old }
     ensures { Mends line.now out.old (drop 2 changes.old) result out.new (drop 2 changes.new) × (take 2 changes.new ≡ take 2 changes.old) }
 {
@@ -36,10 +32,10 @@ pub fn mend_into(line: &[u8], out: &mut [u8], changes: &mut [u64]) -> u64
         return packed(lacking(line, out.len()));
     }
     match mend_behind(line, out, changes) {
-        Mended::Refused(refusal) => packed(refusal),
-        Mended::Done(size, count) => {
-            changes[0] = size as u64;
-            changes[1] = count as u64;
+        Err(refusal) => packed(refusal),
+        Ok(mended) => {
+            changes[0] = mended.size as u64;
+            changes[1] = mended.changes as u64;
             0
         }
     }

@@ -6,7 +6,7 @@ ghost use Rattle.page.specs.Page.{page, put};
 ghost use Rattle.repair.specs.Repair as specs;
 
 use crate::rows::{put_over, put_rows};
-use mend::{Mended, mend_line};
+use mend::mend_line;
 use page::put_bytes;
 
 mod rows;
@@ -25,14 +25,17 @@ fn repair_with(line: &[u8], number: usize, out: &mut [u8], rows: &mut [u8]) -> R
 {
     let mut changes = [0u64; 512];
     match mend_line(line, out, &mut changes) {
-        Mended::Refused(_) => {
+        Err(_) => {
             let n = put_bytes(out, 0, line);
             let m = put_over(rows, 0, number);
             Repaired { n, rows: m }
         }
-        Mended::Done(n, count) => {
-            let m = put_rows(line, number, &changes[..count], rows);
-            Repaired { n, rows: m }
+        Ok(mended) => {
+            let m = put_rows(line, number, &changes[..mended.changes], rows);
+            Repaired {
+                n: mended.size,
+                rows: m,
+            }
         }
     }
 }

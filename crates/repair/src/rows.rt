@@ -44,10 +44,8 @@ pub fn put_changes(rows: &mut [u8], at: usize, number: usize, words: &[u64]) -> 
     ensures { page rows.new result ≡ put (page rows.old at) (specs.word_rows number words.now) }
 {
     let mut next = at;
-    let mut i = 0;
-    while i < words.len() {
-        next = put_change(rows, next, number, words[i]);
-        i += 1;
+    for word in words {
+        next = put_change(rows, next, number, *word);
     }
     next
 }

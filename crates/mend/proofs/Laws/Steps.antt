@@ -1,6 +1,6 @@
 -- The steps of the code.
 --     line-next, line-done        one byte further in the line that is put
---     blanks-next, blanks-done    one blank further
+--     blanks-filled               blanks in a part of the bytes
 --     change-none, change-held, change_past     a change that is none, one that is held, one past the words
 --     step-low, step-high, note-count           one byte further, and how many changes it makes
 --     run_next, run_le, run_done                so in the runs
@@ -10,12 +10,12 @@
 use Prim.Native.Nat.{ℕ, suc, ◌+◌, ◌-◌, ◌<◌, ◌≤◌}
 use mathlib.Core.Path.{◌≡◌, refl, sym, ap, ◌∙◌}
 use mathlib.Core.Bool.{Bool, true, false, cond}
-use mathlib.Core.List.{List, [], ◌∷◌, ◌++◌}
+use mathlib.Core.List.{List, [], ◌∷◌, ◌++◌, append_assoc}
 use native.Mathlib.Omega.{arith}
 use native.Mathlib.Numerals.{add-one}
 use borrow.Author.Tests.{eq-eqb, ne_eqb}
-use lib.ListN.{length, drop, get_or, set, replicate, drop_of_length-le}
-use lib.Seq.{sets, drop-cons, set_out}
+use lib.ListN.{length, take, drop, get_or, set, replicate, drop_of_length-le, length-drop, length-replicate}
+use lib.Seq.{sets, sets-eq, drop-cons, drop-drop, set_out, length-take-le}
 use lib.Dec.{ltb, eqb}
 use Rattle.mend.specs.Mend.{mended_byte, questioned, padding, mended}
 use Rattle.mend.specs.Changes.{changes_of, What, Change, change, runs, what_number, word, word_of, Notes, notes, note, note_all, note_by, stepped}
@@ -31,17 +31,13 @@ module _ (t out s : List ℕ) (i : ℕ) (v : sets out i (questioned (drop i t)) 
   unfolding questioned
   line-done h = sym (ap (λ (d : List ℕ). sets out i (questioned d)) (drop_of_length-le t h)) ∙ v
 
-module _ (out s : List ℕ) (at n i : ℕ) (v : sets out (at + i) (replicate (n - i) 32) ≡ s) where
-  pub blanks-next : i < n → sets (set out (at + i) 32) (at + (i + 1)) (replicate (n - (i + 1)) 32) ≡ s
-  blanks-next h =
-      let e : n - i ≡ suc (n - (i + 1)) = omega arith in
-      let f : at + (i + 1) ≡ suc (at + i) = omega arith in
-      rw f (sym (ap (λ (k : ℕ). sets out (at + i) (replicate k 32)) e) ∙ v)
-
-  pub blanks-done : n ≤ i → out ≡ s
-  blanks-done h =
-      let e : n - i ≡ 0 = omega arith in
-      sym (ap (λ (k : ℕ). sets out (at + i) (replicate k 32)) e) ∙ v
+pub blanks-filled : (out part : List ℕ) (at n m : ℕ) → at + n ≤ length out → m ≡ n → part ≡ replicate (length (take m (drop at out))) 32
+    → take at out ++ (part ++ drop m (drop at out)) ≡ sets out at (replicate n 32)
+blanks-filled out part at n m h e f =
+    let size : length (take m (drop at out)) ≡ n = length-take-le m (drop at out) (omega (arith, length-drop at out)) ∙ e in
+    let count = length-replicate {A = ℕ} n 32 in
+    let whole = rw count at (sets-eq (replicate n 32) out at (omega (arith, count))) in
+    rw (f, size, e, drop-drop n at out) (sym (append_assoc (take at out) (replicate n 32) (drop (at + n) out)) ∙ sym whole)
 
 module _ (ws : List ℕ) (k what at n : ℕ) where
   pub change-none : n ≡ 0 → notes ws k ≡ note_by (notes ws k) what at n
@@ -89,9 +85,10 @@ module _ (t : List ℕ) (s r : Notes) (i n : ℕ) (v : note_all s (runs i n (dro
       ∙ sym (ap (λ (d : List ℕ). note_all s (runs i n d)) (drop-cons t i 0 h))
       ∙ v)
 
-  pub run_done : length t ≤ i → note_by s 1 i n ≡ r
+  pub run_done : length t ≡ i → note_by s 1 (length t) n ≡ r
   unfolding runs
-  run_done h = noted_by s What.replaced i n ∙ sym (ap (λ (d : List ℕ). note_all s (runs i n d)) (drop_of_length-le t h)) ∙ v
+  run_done h =
+      rw h (noted_by s What.replaced i n ∙ sym (ap (λ (d : List ℕ). note_all s (runs i n d)) (drop_of_length-le t (omega arith))) ∙ v)
 
 pub note-count : (ws vs : List ℕ) (r k what at n : ℕ) → notes ws r ≡ note_by (notes vs k) what at n → r ≤ k + 1
 unfolding note_by

@@ -7,7 +7,7 @@ use Rattle.mend.proofs.put_line.Goals as goal
 pub loop-i-preserved : goal.loop-i-preserved
 loop-i-preserved c =
     let l = c.loop-i in
-    (search rules, search rules, line-next _ _ _ l.i l.invariant.2 c.loop-i-test.true _ c.mended_byte.ensures)
+    (search rules, line-next _ _ _ l.i l.invariant.1 c.loop-i-test.true _ c.mended_byte.ensures)
 
 pub returns : goal.returns
-returns c = line-done _ _ _ _ c.loop-i.invariant.2 c.loop-i-test.false
+returns c = line-done _ _ _ _ c.loop-i.invariant.1 c.loop-i-test.false

@@ -1,6 +1,5 @@
 -- `mend::put_line` meets its contract. The loop's invariant: with the rest of the line, the bytes are as the whole line leaves them.
 -- Assumes nothing.
-use Prim.Native.Nat.{◌-◌, ◌≤◌}
 use mathlib.Core.Path.{◌≡◌}
 use lib.ListN.{length, drop}
 use lib.Seq.{sets}
@@ -9,7 +8,4 @@ use Rattle.mend.proofs.put_line.Given as goal
 
 abbrev pub invariant-loop-i : goal.invariant-loop-i
 invariant-loop-i l =
-    (l.i ≤ length l.line) × (length l.out ≡ length l.initial.out) × (sets l.out l.i (questioned (drop l.i l.line)) ≡ sets l.initial.out 0 (questioned l.line))
-
-abbrev pub decreases-loop-i : goal.decreases-loop-i
-decreases-loop-i l = length l.line - l.i
+    (length l.out ≡ length l.initial.out) × (sets l.out l.i (questioned (drop l.i l.line)) ≡ sets l.initial.out 0 (questioned l.line))

@@ -13,15 +13,15 @@ returns-then-changes-lt514 c = mends_few _ _ _ _ _ c.if-changes-lt514.true c.lac
 pub bounds-changes-1 : goal.bounds-changes-1
 bounds-changes-1 c =
     let same = c.mend_behind.auto.out in
-    omega (arith, length-set c.mend_behind.new.changes 0 c.in-Done.size, c.if-changes-lt514.false)
+    omega (arith, length-set c.mend_behind.new.changes 0 c.in-Ok.mended.size, c.if-changes-lt514.false)
 
-pub returns-in-Refused : goal.returns-in-Refused
-returns-in-Refused c =
-    let done = c.mend_behind.ensures in
-    mends_refused _ _ c.args.changes.now _ c.mend_behind.new.changes _ c.if-changes-lt514.false done.0 done.1 _ _ c.in-Refused.is
-    (c.packed-in-Refused.ensures ∙ packed-small _ (refused-small _ _ _ _ _ _ _ _ refl done.0 c.in-Refused.is))
+pub returns-in-Err : goal.returns-in-Err
+returns-in-Err c =
+    let done = c.in-Err.ensures in
+    mends_refused _ _ c.args.changes.now _ c.mend_behind.new.changes _ c.if-changes-lt514.false done.0 done.1 _ _ refl
+    (c.packed-in-Err.ensures ∙ packed-small _ (refused-small _ _ _ _ _ _ done.0))
 
-pub returns-in-Done : goal.returns-in-Done
-returns-in-Done c =
-    let done = c.mend_behind.ensures in
-    mends_done _ _ c.args.changes.now _ c.mend_behind.new.changes _ c.if-changes-lt514.false done.0 done.1 _ _ _ c.in-Done.is refl
+pub returns-in-Ok : goal.returns-in-Ok
+returns-in-Ok c =
+    let done = c.in-Ok.ensures in
+    mends_done _ _ c.args.changes.now _ c.mend_behind.new.changes _ c.if-changes-lt514.false done.0 done.1 _ _ refl refl

@@ -6,19 +6,20 @@
 -- Assumes nothing.
 use Prim.Native.Nat.{ℕ, suc, ◌^◌, ◌<◌, ◌≤◌}
 use mathlib.Core.Path.{◌≡◌, refl, sym, ap, ◌∙◌}
-use mathlib.Core.Bool.{Bool, true, false, cond, ◌||◌}
+use mathlib.Core.Bool.{Bool, true, false, ◌||◌}
 use mathlib.Core.List.{List, [], ◌∷◌, ◌++◌, map}
 use native.Mathlib.Omega.{arith}
 use borrow.Author.Tests.{ltb-false, lt-ltb, le-ltb}
 use lib.ListN.{length, take, drop}
 use lib.Seq.{sets, take_at}
 use lib.Dec.{ltb}
+use Rattle.std.specs.Prelude.{Result, Ok, Err}
 use Rattle.lexitem.specs.declared.answer.Refusal.{Refusal}
 use Rattle.mend.specs.Mend.{mended}
 use Rattle.mend.specs.Changes.{Change, changes_of, word_of}
-use Rattle.mend.specs.Mending.{refuses, refusal_of, answer_of, Mends}
+use Rattle.mend.specs.Mending.{refuses, Mends}
 use Rattle.mend.specs.declared.Mended.{Mended}
-use Rattle.mend.specs.declared.Mended.TheVariants.{Done, Refused}
+use Rattle.mend.proofs.Laws.Answers.{refused_when, accepted, err_answer, ok_answer}
 use Rattle.mend.proofs.Laws.Mended.{mended-length, pad_within}
 use Rattle.mend.proofs.Laws.Changes.{changes_few}
 use Rattle.mend.proofs.Laws.Held.{held_all}
@@ -42,39 +43,23 @@ map-size (c ∷ cs) = ap suc (map-size cs)
 -- ---- the line is put as it stands, or is the mended one
 module _ (l : List ℕ) (number : ℕ) (out lent : List ℕ) (room : 1024 ≤ length out) where
   -- with so much room only a line of over 1,024 bytes is refused
-  refused_when : refuses l (length out) ≡ ltb 1024 (length l)
+  refuses_over : refuses l (length out) ≡ ltb 1024 (length l)
   unfolding refuses
-  refused_when = go (ltb 1024 (length l)) refl
+  refuses_over = go (ltb 1024 (length l)) refl
     where
       go : (x : Bool) → ltb 1024 (length l) ≡ x → x || ltb (length out) (length (mended l)) ≡ x
       go true e = refl
       go false e =
           le-ltb (length out) (length (mended l)) (omega (arith, mended-length l, pad_within l (ltb-false 1024 (length l) e)))
 
-  abbrev one_if : Mended → ℕ
-  one_if (Refused r) = 1
-  one_if (Done n k) = 0
-
-  abbrev size_in : Mended → ℕ
-  size_in (Refused r) = 0
-  size_in (Done n k) = n
-
-  abbrev count_in : Mended → ℕ
-  count_in (Refused r) = 0
-  count_in (Done n k) = k
-
-  module _ (words written held : List ℕ) (m : Mended) (s : Mends l out words m written held) where
-    over : (r : Refusal) → m ≡ Refused r → (ltb 1024 (length l) ≡ true) × (written ≡ out)
-    unfolding answer_of
-    over r e = go (refuses l (length out)) refl (sym e ∙ s.answers)
-      where
-        go : (b : Bool) → refuses l (length out) ≡ b → Refused r ≡ cond b (Refused (refusal_of l (length out))) (Done (length (mended l)) (length (changes_of l)))
-            → (ltb 1024 (length l) ≡ true) × (written ≡ out)
-        go true f g = (sym refused_when ∙ f, s.writes ∙ rw f refl)
-        go false f g = absurd (omega (arith, ap one_if g))
+  module _ (words written held : List ℕ) (m : Result Mended Refusal) (s : Mends l out words m written held) where
+    over : (r : Refusal) → m ≡ Err r → (ltb 1024 (length l) ≡ true) × (written ≡ out)
+    over r e =
+        let f = refused_when l (length out) r (err_answer l (length out) r (sym e ∙ s.answers)) in
+        (sym refuses_over ∙ f, s.writes ∙ rw f refl)
 
     -- what a refused line's page holds
-    pub repairs_over : (r : Refusal) (put-to told : List ℕ) (n k : ℕ) → m ≡ Refused r → page put-to n ≡ put (page written 0) l
+    pub repairs_over : (r : Refusal) (put-to told : List ℕ) (n k : ℕ) → m ≡ Err r → page put-to n ≡ put (page written 0) l
         → page told k ≡ put (page lent 0) (over_row number)
         → RepairsAs (line_for l) (rows_for number l) out lent put-to told (record { n = n; rows = k })
     unfolding line_for rows_for
@@ -82,39 +67,35 @@ module _ (l : List ℕ) (number : ℕ) (out lent : List ℕ) (room : 1024 ≤ le
         let w = over r e in
         record { puts = rw w.0 (rw w.1 at p); tells = rw w.0 q }
 
-    done : (n k : ℕ) → m ≡ Done n k
-        → (ltb 1024 (length l) ≡ false) × (written ≡ mended l ++ drop (length (mended l)) out) × (n ≡ length (mended l)) × (k ≡ length (changes_of l))
+    done : (x : Mended) → m ≡ Ok x
+        → (ltb 1024 (length l) ≡ false) × (written ≡ mended l ++ drop (length (mended l)) out) × (x.size ≡ length (mended l)) × (x.changes ≡ length (changes_of l))
         × (held ≡ sets words 0 (map word_of (changes_of l)))
-    unfolding answer_of
-    done n k e = go (refuses l (length out)) refl (sym e ∙ s.answers)
-      where
-        go : (b : Bool) → refuses l (length out) ≡ b → Done n k ≡ cond b (Refused (refusal_of l (length out))) (Done (length (mended l)) (length (changes_of l)))
-            → (ltb 1024 (length l) ≡ false) × (written ≡ mended l ++ drop (length (mended l)) out) × (n ≡ length (mended l)) × (k ≡ length (changes_of l))
-            × (held ≡ sets words 0 (map word_of (changes_of l)))
-        go false f g = (sym refused_when ∙ f, s.writes ∙ rw f refl, ap size_in g, ap count_in g, s.holds ∙ rw f refl)
-        go true f g = absurd (omega (arith, ap one_if g))
+    done x e =
+        let w = ok_answer l (length out) x (sym e ∙ s.answers) in
+        let f = accepted l (length out) w.0 in
+        (sym refuses_over ∙ f, s.writes ∙ rw f refl, w.1, w.2, s.holds ∙ rw f refl)
 
-    pub count-few : (n k : ℕ) → m ≡ Done n k → 512 ≤ length words → k ≤ 512
-    count-few n k e h = let w = done n k e in omega (arith, w.3, changes_few l (ltb-false 1024 (length l) w.0))
+    pub count-few : (x : Mended) → m ≡ Ok x → 512 ≤ length words → x.changes ≤ 512
+    count-few x e h = let w = done x e in omega (arith, w.3, changes_few l (ltb-false 1024 (length l) w.0))
 
     -- the words that were counted are those of the changes
-    held-words : (n k : ℕ) → m ≡ Done n k → 512 ≤ length words → take k held ≡ map word_of (changes_of l)
-    held-words n k e h =
-        let w = done n k e in
+    held-words : (x : Mended) → m ≡ Ok x → 512 ≤ length words → take x.changes held ≡ map word_of (changes_of l)
+    held-words x e h =
+        let w = done x e in
         let short = ltb-false 1024 (length l) w.0 in
-        rw (w.4, held_all l words short h) (take_at (map word_of (changes_of l)) (drop (length (changes_of l)) words) k (map-size (changes_of l) ∙ sym w.3))
+        rw (w.4, held_all l words short h) (take_at (map word_of (changes_of l)) (drop (length (changes_of l)) words) x.changes (map-size (changes_of l) ∙ sym w.3))
 
-    pub repairs_mended : (n k rows : ℕ) (told : List ℕ) → m ≡ Done n k → 512 ≤ length words → length out < 2 ^ 64
-        → page told rows ≡ put (page lent 0) (word_rows number (take k held) ++ cut_rows number l)
-        → RepairsAs (line_for l) (rows_for number l) out lent written told (record { n = n; rows = rows })
+    pub repairs_mended : (x : Mended) (rows : ℕ) (told : List ℕ) → m ≡ Ok x → 512 ≤ length words → length out < 2 ^ 64
+        → page told rows ≡ put (page lent 0) (word_rows number (take x.changes held) ++ cut_rows number l)
+        → RepairsAs (line_for l) (rows_for number l) out lent written told (record { n = x.size; rows = rows })
     unfolding line_for rows_for
-    repairs_mended n k rows told e h small q =
-        let w = done n k e in
+    repairs_mended x rows told e h small q =
+        let w = done x e in
         let short = ltb-false 1024 (length l) w.0 in
         let fits : length (mended l) ≤ length out = omega (arith, mended-length l, pad_within l short) in
         record {
-          puts = rw w.0 (front out (mended l) written n small fits w.1 w.2);
-          tells = rw w.0 (rw (held-words n k e h, rows_told number l short) at q);
+          puts = rw w.0 (front out (mended l) written x.size small fits w.1 w.2);
+          tells = rw w.0 (rw (held-words x e h, rows_told number l short) at q);
         }
 
 -- ---- by the room for the line

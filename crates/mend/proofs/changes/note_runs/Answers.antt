@@ -15,11 +15,10 @@ loop-i-preserved c =
     let t = c.args.line.now in
     let e = called.ensures in (
       search rules,
-      search rules,
-      omega (arith, e.2, l.invariant.2),
-      run_le (ltb (get_or t l.i 0) 128) _ _ l.i e.0 l.invariant.3,
-      run_next _ _ _ _ l.i _ _ l.invariant.4 c.loop-i-test.true e.0 e.1,
+      omega (arith, e.2, l.invariant.1),
+      run_le (ltb (get_or t l.i 0) 128) _ _ l.i e.0 l.invariant.2,
+      run_next _ _ _ _ l.i _ _ l.invariant.3 c.loop-i-test.true e.0 e.1,
     )
 
 pub returns : goal.returns
-returns c = c.put_change.ensures ∙ run_done _ _ _ _ _ c.loop-i.invariant.4 c.loop-i-test.false
+returns c = c.put_change.ensures ∙ run_done _ _ _ _ _ c.loop-i.invariant.3 (omega (arith, c.loop-i-test.false))

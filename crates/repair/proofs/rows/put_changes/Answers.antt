@@ -4,10 +4,10 @@ use Rattle.repair.proofs.Laws.Rows.{rows_next, rows-done}
 use borrow.Author.Rules.{rules}
 use Rattle.repair.proofs.rows.put_changes.Goals as goal
 
-pub loop-i-preserved : goal.loop-i-preserved
-loop-i-preserved c =
-    let l = c.loop-i in
-    (search rules, search rules, rows_next _ l.i _ _ _ l.invariant.2 _ c.loop-i-test.true c.put_change-next.ensures)
+pub loop-word-preserved : goal.loop-word-preserved
+loop-word-preserved c =
+    let l = c.loop-word in
+    (search rules, rows_next _ l.word-index _ _ _ l.invariant.1 _ c.loop-word-test.true c.put_change-next.ensures)
 
 pub returns : goal.returns
-returns c = rows-done _ _ _ _ _ c.loop-i.invariant.2 c.loop-i-test.false
+returns c = rows-done _ _ _ _ _ c.loop-word.invariant.1 c.loop-word-test.false

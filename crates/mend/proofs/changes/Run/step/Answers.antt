@@ -1,10 +1,10 @@
--- `mend::changes::step` meets its contract.
+-- `mend::changes::Run::step` meets its contract.
 -- Assumes nothing.
 use mathlib.Core.Path.{refl, ◌∙◌}
 use native.Mathlib.Omega.{arith}
 use borrow.Author.Tests.{lt-ltb, le-ltb}
 use Rattle.mend.proofs.Laws.Steps.{step-low, step-high, note-count}
-use Rattle.mend.proofs.changes.step.Goals as goal
+use Rattle.mend.proofs.changes.Run.step.Goals as goal
 
 pub returns-then-b-lt128 : goal.returns-then-b-lt128
 returns-then-b-lt128 c =
