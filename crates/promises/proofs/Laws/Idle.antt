@@ -18,7 +18,7 @@ use Rattle.line.specs.Given.{Given}
 use Rattle.field.specs.Number.{zero_real, real_at, places_at}
 use Rattle.field.specs.Table.{Entry, faults_by, table_faults}
 use Rattle.field.specs.Table.Entry.{u, i, r, t, c, c?, a, u-rest, x, t_within, t-rest, t-end, charge, known, given, unwritten, triples}
-use Rattle.ssbond.specs.Ssbond.{has_tail, ssbond_table, tail_of, tail_places}
+use Rattle.ssbond.specs.Ssbond.{has_tail, ssbond_table, tail_of}
 use Rattle.kind.specs.declared.Kind.{Kind}
 use Rattle.kind.specs.declared.Kind.TheVariants as kinds
 use Rattle.lexitem.specs.Describe.{item_of, fields_by, faults_of}
@@ -94,10 +94,9 @@ module _ (l : List ℕ) (on : Bool) where
   table-alike (e ∷ es) h =
       (entry_alike e (and_left (unmarked_in l e) (unmarked l es) h), table-alike es (and_right (unmarked_in l e) (unmarked l es) h))
 
-  tail-alike : (part : Bool) → AllAlike (ssbond_table part)
-      → (tail_of part on l ≡ tail_of part false l) × (tail_places part on l ≡ tail_places part false l)
-  tail-alike true h = (cc, cc)
-  tail-alike false h = (refl, refl)
+  tail-alike : (part : Bool) → AllAlike (ssbond_table part) → tail_of part on l ≡ tail_of part false l
+  tail-alike true h = cc
+  tail-alike false h = refl
 
 -- ---- the record, and the faults
 module _ (input : Input) (on : Bool) where
@@ -129,7 +128,7 @@ module _ (input : Input) (on : Bool) where
   item-alike kinds.Seqres h = refl
   item-alike kinds.Seqadv h = refl
   item-alike kinds.Modres h = refl
-  item-alike kinds.Ssbond h = let (tail, places) = tail-alike line on (has_tail line) h in rw (tail, places) refl
+  item-alike kinds.Ssbond h = rw (tail-alike line on (has_tail line) h) refl
   item-alike kinds.Endmdl h = refl
   item-alike kinds.Ter h = refl
   item-alike kinds.End h = refl
