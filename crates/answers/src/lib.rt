@@ -31,6 +31,7 @@ fn refusal_of(line: &[u8], number: usize, options: u32, remarks: &[u8], room: us
     }
 }
 
+// The three parts of a refusal: C takes one number from a call, so there is a function for each.
 pub fn list_refusal(
     line: &[u8],
     number: usize,

@@ -91,7 +91,8 @@ impl Position {
     }
 }
 
-// How many digits stood behind the point of each coordinate, 0 where it is its default.
+// How many digits stood behind the point of each coordinate, 0 where it is its default. They stand beside the position, since those who write one
+// take its numbers alone.
 #[derive(Clone, Copy)]
 pub struct PositionPlaces {
     pub x: u8,

@@ -120,6 +120,7 @@ pub fn see_lines(watch: Watch, file: &[u8]) -> Watch
 {
     let mut w = watch;
     let mut at = 0;
+    // No iterator counts this: each line says where the next one begins.
     loop {
         let Some(here) = step(file, at) else {
             return w;

@@ -67,6 +67,7 @@ pub extern "C" fn saltighedda_bench(file: &[u8]) -> u64
     let mut sum = 0;
     let mut count = 0;
     let mut at = 0;
+    // No iterator counts this: each line says where the next one begins.
     while let Some(Line { start, end, next }) = line_at(file, at) {
         let text = line(file, start, end);
         count += 1;

@@ -25,6 +25,7 @@ pub fn check_into(file: &[u8], found: &mut [u64]) -> u64
     }
 }
 
+// The two parts of a refusal: C takes one number from a call, so there is a function for each.
 pub fn refused_place(file: &[u8]) -> u64
     ensures { result ≡ specs.place_of (checked file.now) }
 {

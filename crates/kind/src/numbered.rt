@@ -4,7 +4,7 @@ ghost use Rattle.kind.specs.Kind as specs;
 
 use crate::Kind;
 
-// No kind's number.
+// No kind's number. It is a number and no None, since C hosts are told a kind by a number alone.
 const NO_KIND: usize = 255;
 
 // The number of a row's kind, from that of the family's first on. A row above 2 is no kind of a line.

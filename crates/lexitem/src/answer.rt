@@ -4,7 +4,8 @@ ghost use Rattle.std.specs.Prelude.{◌≡◌};
 use crate::fault::LineFaults;
 use crate::item::LexItem;
 
-// A refusal by document 01's number, with its place and length.
+// A refusal by document 01's number, with its place and length. It is three numbers and no enum, since hosts are told the three, and theorems speak of
+// them (`refused_once`).
 #[derive(Clone, Copy)]
 pub struct Refusal {
     pub number: usize,

@@ -50,7 +50,7 @@ pub fn trim(text: &[u8]) -> &[u8]
     trim_end(&text[i..])
 }
 
-// Where a trimmed text lies in the text.
+// Where a trimmed text lies in the text. An empty one has place 0 and length 0, as document 01 has it, and is no None.
 #[derive(Clone, Copy)]
 pub struct Span {
     pub place: usize,

@@ -45,6 +45,7 @@ pub fn put_reports(file: &[u8], at: usize, number: usize, out: &mut [u8]) -> Fil
     ensures { specs.Fills out.old (specs.filling (length out.old) file.now at number) out.new result }
 {
     let mut filled = Filled { at, number, n: 0 };
+    // No iterator counts this: each line says where the next one begins, and how much room is left.
     while LONGEST <= out.len() - filled.n {
         let Some(found) = step(file, filled.at) else {
             return filled;

@@ -400,6 +400,7 @@ fn answer_all(
 {
     let mut rest = block;
     let mut to = 0;
+    // No iterator counts this: each request says how far it comes.
     while !rest.is_empty() {
         let place = place_for(rt, replies, to)?;
         let (request, behind) = rest.split_at(end_of(rest));

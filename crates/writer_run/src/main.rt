@@ -84,6 +84,7 @@ fn try_line(rt: &impl Print, text: &[u8], mark: u8) {
 
 fn try_lines(rt: &impl Print, file: &[u8]) {
     let mut at = 0;
+    // No iterator counts this: each line says where the next one begins.
     while at < file.len() {
         let Some(found) = step(file, at) else {
             return;
