@@ -58,6 +58,7 @@ pub struct Span {
 }
 
 // Where the text lies once it is trimmed, 0 and 0 if nothing is left.
+#[inline(always)]
 pub fn read_text(text: &[u8]) -> Span
     ensures { result ≡ span_of text.now }
 {

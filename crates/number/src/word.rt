@@ -62,6 +62,7 @@ fn fours(word: u64) -> u64
 
 // What a word says: the number before the point in the lowest two bytes, the one behind it in the two from the fifth on, and a minus in
 // the highest bit. A minus is the one odd byte of a front.
+#[inline(always)]
 pub fn read_word(word: u64) -> u64
     ensures { result ≡ specs.code_of word }
 {
