@@ -7,7 +7,7 @@ ghost use Rattle.pdbmaster.specs.Came as specs;
 use audit::feed::{watch_last, watch_part};
 use audit::watch::{Watch, judge};
 use carry::held::Held;
-use stream::input::{Got, read_some};
+use stream::input::read_some;
 use stream::reason::fail;
 use verdict::put_verdict;
 
@@ -38,11 +38,10 @@ fn main(rt: HostRuntime) {
     let mut held = Held::none(1);
     let mut watch = Watch::NONE;
     let mut space = [0u8; 65536];
-    let mut turns = MOST_READS;
-    while 0 < turns {
+    for _turn in 0..MOST_READS {
         let n = match read_some(&mut source, &mut space) {
-            Got::Bytes(n) => n,
-            Got::Failed(why) => {
+            Ok(n) => n,
+            Err(why) => {
                 fail(&rt, "pdbmaster: standard input", why);
                 return;
             }
@@ -54,6 +53,5 @@ fn main(rt: HostRuntime) {
         let watched = watch_part(held, &mut kept, watch, &space[..n]);
         held = watched.held;
         watch = watched.watch;
-        turns -= 1;
     }
 }
