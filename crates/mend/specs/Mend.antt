@@ -1,7 +1,8 @@
 -- "Into a lent output goes the line with each byte of 128 or more made `?`, and padded with blanks to 80 if shorter, but only if no field of 01's
 -- table (the charge included) starts before the line's end and stops after it: a cut number must not pass for a whole one. Other kinds get the
 -- first mend only." What is cut is computed from the table that the atoms' reader is proved by.
-use Rattle.std.specs.Prelude.{ℕ, ◌-◌, Bool, false, cond, not, ◌&&◌, ◌||◌, List, [], ◌∷◌, ◌++◌, length, replicate, ltb, eqb}
+use Rattle.std.specs.Prelude.{ℕ, ◌-◌, Bool, false, cond, not, ◌&&◌, ◌||◌, Option, None, List, [], ◌∷◌, ◌++◌, map, length, replicate, ltb, eqb}
+use Rattle.std.specs.List.{find}
 use Rattle.atom.specs.Atom.{atom_table}
 use Rattle.field.specs.Table.{Entry}
 use Rattle.field.specs.Table.Entry.{u, i, r, t, c, c?, a, u-rest, x, t_within, t-rest, t-end, charge, known, given, unwritten, triples}
@@ -71,18 +72,10 @@ unfoldable pub mended : List ℕ → List ℕ
 mended l = questioned l ++ replicate (padding l) 32
 
 -- ---- which field is cut
--- the columns that were found, or else these if they are cut
-unfoldable pub or_cut : Columns → Columns → ℕ → Columns
-or_cut found at n = cond (ltb 0 found.end) found (cond (cut at n) at found)
-
-abbrev pub cut_among : Columns → List Entry → ℕ → Columns
-cut_among found [] n = found
-cut_among found (e ∷ rest) n = cut_among (or_cut found (columns_of e) n) rest n
-
 -- the first field of ATOM's table that the end of a line of n bytes cuts
-unfoldable pub cut_field : ℕ → Columns
-cut_field n = cut_among no_columns atom_table n
+unfoldable pub cut_field : ℕ → Option Columns
+cut_field n = find (λ (at : Columns). cut at n) (map columns_of atom_table)
 
 -- why an ATOM or HETATM is left as short as it is
-unfoldable pub left_cut : List ℕ → Columns
-left_cut l = cond (is_atom_line l) (cut_field (length l)) no_columns
+unfoldable pub left_cut : List ℕ → Option Columns
+left_cut l = cond (is_atom_line l) (cut_field (length l)) None

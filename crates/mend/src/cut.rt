@@ -1,6 +1,7 @@
 // Which field of an ATOM or HETATM the line's end cuts, and how many blanks are put behind a line that isn't cut.
+ghost use Rattle.std.specs.List.{find};
 ghost use Rattle.std.specs.Prelude.{◌≡◌};
-ghost use Rattle.atom.specs.Atom.{atom_table, basics_table};
+ghost use Rattle.line.specs.declared.columns.Columns.{Columns};
 ghost use Rattle.mend.specs.Mend as specs;
 
 use atom::record::{Atom, Basics, Position};
@@ -9,55 +10,41 @@ use kind::numbered::number_of;
 use line::columns::Columns;
 use line::options::Mode;
 
-// The columns that were found, or else these if they start before the end of a line of n bytes and stop after it.
-fn or_cut(found: Columns, at: Columns, n: usize) -> Columns
-    ensures { result ≡ specs.or_cut found at n }
+// The fields of ATOM's table, in its order. One that has a single column isn't among them, since it can't be cut.
+const FIELDS: [Columns; 12] = [
+    Position::X,
+    Position::Y,
+    Position::Z,
+    Atom::OCCUPANCY,
+    Atom::BFACTOR,
+    Basics::SERIAL,
+    Basics::NAME,
+    Basics::RESIDUE,
+    Basics::NUMBER,
+    Basics::SEGMENT,
+    Basics::ELEMENT,
+    Basics::CHARGE,
+];
+
+// Whether columns start before the end of a line of n bytes and stop after it.
+fn is_inside(at: Columns, n: usize) -> bool
+    ensures { result ≡ specs.cut at n }
 {
-    if 0 < found.end {
-        return found;
-    }
-    let start = at.start as usize;
-    let end = at.end as usize;
-    if n <= start {
-        return found;
-    }
-    if end <= n {
-        return found;
-    }
-    at
+    (at.start as usize) < n && n < at.end as usize
 }
 
-// A field that ATOM, HETATM and ANISOU share. One that has a single column can't be cut.
-fn cut_basics(found: Columns, n: usize) -> Columns
-    ensures { result ≡ specs.cut_among found basics_table n }
+// The first columns that the end of a line of n bytes cuts.
+fn first_cut(fields: &[Columns], n: usize) -> Option<Columns>
+    ensures { result ≡ find (λ (at : Columns). specs.cut at n) fields.now }
 {
-    let serial = or_cut(found, Basics::SERIAL, n);
-    let name = or_cut(serial, Basics::NAME, n);
-    let residue = or_cut(name, Basics::RESIDUE, n);
-    let number = or_cut(residue, Basics::NUMBER, n);
-    let segment = or_cut(number, Basics::SEGMENT, n);
-    let element = or_cut(segment, Basics::ELEMENT, n);
-    or_cut(element, Basics::CHARGE, n)
+    fields.iter().copied().find(|at| is_inside(*at, n))
 }
 
-// The first field of ATOM's table that the end of a line of n bytes cuts; columns that end at 0 say that there is none.
-fn cut_field(n: usize) -> Columns
+// The first field of ATOM's table that the end of a line of n bytes cuts.
+fn cut_field(n: usize) -> Option<Columns>
     ensures { result ≡ specs.cut_field n }
 {
-    let none = Columns::new(0, 0);
-    let x = or_cut(none, Position::X, n);
-    let y = or_cut(x, Position::Y, n);
-    let z = or_cut(y, Position::Z, n);
-    let occupancy = or_cut(z, Atom::OCCUPANCY, n);
-    let bfactor = or_cut(occupancy, Atom::BFACTOR, n);
-    cut_basics(bfactor, n)
-}
-
-fn is_cut(n: usize) -> bool
-    ensures { result ≡ specs.cut_in atom_table n }
-{
-    let found = cut_field(n);
-    0 < found.end
+    first_cut(&FIELDS, n)
 }
 
 // Whether a line is an ATOM or a HETATM.
@@ -79,7 +66,7 @@ pub fn padding(line: &[u8]) -> usize
     if 80 <= n {
         return 0;
     }
-    if is_cut(n) {
+    if cut_field(n).is_some() {
         return 0;
     }
     if is_atom(line) {
@@ -88,12 +75,12 @@ pub fn padding(line: &[u8]) -> usize
     0
 }
 
-// The field that the end of an ATOM or HETATM cuts, for which it is left as short as it is; columns that end at 0 say that there is none.
-pub fn left_cut(line: &[u8]) -> Columns
+// The field that the end of an ATOM or HETATM cuts, for which it is left as short as it is.
+pub fn left_cut(line: &[u8]) -> Option<Columns>
     ensures { result ≡ specs.left_cut line.now }
 {
     if is_atom(line) {
         return cut_field(line.len());
     }
-    Columns::new(0, 0)
+    None
 }

@@ -1,6 +1,6 @@
 -- "A row on standard error for each change (line, columns, what was done) and for each line that was left cut, and why." Columns count from 1 here, as
 -- in wwPDB's document and in editors. Every row ends with LF.
-use Rattle.std.specs.Prelude.{ℕ, ◌+◌, ◌/◌, ◌%◌, cond, List, [], ◌∷◌, ◌++◌, length, eqb, ltb}
+use Rattle.std.specs.Prelude.{ℕ, ◌+◌, ◌/◌, ◌%◌, cond, Option, Some, None, List, [], ◌∷◌, ◌++◌, length, eqb}
 use Rattle.line.specs.Bytes.{bytes}
 use Rattle.line.specs.declared.columns.Columns.{Columns}
 use Rattle.mend.specs.Mend.{left_cut}
@@ -39,8 +39,12 @@ unfoldable pub cut_row : ℕ → Columns → ℕ → List ℕ
 cut_row number at size =
     columns_text number (at.start + 1) at.end ++ bytes ": cut, so the line is left at " ++ decimal size ++ bytes " bytes\n"
 
+abbrev pub cut_rows_for : ℕ → ℕ → Option Columns → List ℕ
+cut_rows_for number size (Some at) = cut_row number at size
+cut_rows_for number size None = []
+
 unfoldable pub cut_rows : ℕ → List ℕ → List ℕ
-cut_rows number l = cond (ltb 0 (left_cut l).end) (cut_row number (left_cut l) (length l)) []
+cut_rows number l = cut_rows_for number (length l) (left_cut l)
 
 -- it is too long
 unfoldable pub over_row : ℕ → List ℕ

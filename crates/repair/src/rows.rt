@@ -74,9 +74,8 @@ pub fn put_rows(line: &[u8], number: usize, words: &[u64], rows: &mut [u8]) -> u
     ensures { page rows.new result ≡ put (page rows.old 0) (specs.word_rows number words.now ++ specs.cut_rows number line.now) }
 {
     let next = put_changes(rows, 0, number, words);
-    let found = left_cut(line);
-    if 0 < found.end {
-        return put_cut(rows, next, number, found, line.len());
+    match left_cut(line) {
+        Some(found) => put_cut(rows, next, number, found, line.len()),
+        None => next,
     }
-    next
 }

@@ -4,11 +4,12 @@ use Prim.Native.Nat.{ℕ, ◌-◌}
 use mathlib.Core.Path.{◌≡◌, refl}
 use mathlib.Core.List.{List, [], ◌∷◌, ◌++◌, map}
 use lib.ListN.{replicate}
+use Rattle.std.specs.Prelude.{Option, Some, None}
 use Rattle.kind.specs.Kind.{kind_of}
 use Rattle.line.specs.Bytes.{bytes}
 use Rattle.line.specs.Columns.{◌⋯◌}
 use Rattle.line.specs.declared.columns.Columns.{Columns}
-use Rattle.mend.specs.Mend.{mended_byte, questioned, padding, mended, or_cut, cut_field, left_cut}
+use Rattle.mend.specs.Mend.{mended_byte, questioned, padding, mended, cut_field, left_cut}
 use Rattle.mend.specs.Changes.{What, runs, changes_of}
 
 abbrev atom : ℕ → List ℕ
@@ -28,9 +29,9 @@ unfolding padding kind_of
 other = refl
 
 -- the field that is cut
-fields : ◌≡◌ {A = List Columns} (left_cut (atom 79) ∷ left_cut (atom 50) ∷ left_cut (atom 54) ∷ left_cut (bytes "ANISOU" ++ replicate 44 49) ∷ [])
-    ((78 ⋯ 80) ∷ (46 ⋯ 54) ∷ (0 ⋯ 0) ∷ (0 ⋯ 0) ∷ [])
-unfolding left_cut cut_field or_cut kind_of
+fields : ◌≡◌ {A = List (Option Columns)} (left_cut (atom 79) ∷ left_cut (atom 50) ∷ left_cut (atom 54) ∷ left_cut (bytes "ANISOU" ++ replicate 44 49) ∷ [])
+    (Some (78 ⋯ 80) ∷ Some (46 ⋯ 54) ∷ None ∷ None ∷ [])
+unfolding left_cut cut_field kind_of
 fields = refl
 
 -- three runs, the last at the line's end, and the padding

@@ -1,101 +1,86 @@
 -- The field that is found to be cut.
---     one_uncut      a single column isn't cut: alternate_uncut, chain_uncut, insertion_uncut
+--     one_uncut      a single column isn't cut
+--     cut-fields     so the code's fields are enough: those of more columns
 --     cut-found      columns are found exactly when a field of the table is cut
 --     cut-is         and they are cut
---     cut-told       so for ATOM's table
+--     cut-told, cut-by    so for ATOM's table
 --     left_when      a line is left cut exactly when it is an ATOM or HETATM of which a field is cut
 --     left_is        and the columns that are told are cut
 -- Assumes nothing.
 use Prim.Native.Nat.{ℕ, suc}
-use mathlib.Core.Path.{◌≡◌, refl, sym, ◌∙◌}
+use mathlib.Core.Path.{◌≡◌, refl, sym, ap, ◌∙◌}
 use mathlib.Core.Bool.{Bool, true, false, cond, ◌&&◌, ◌||◌}
-use mathlib.Core.List.{List, [], ◌∷◌}
+use mathlib.Core.List.{List, [], ◌∷◌, map}
 use native.Mathlib.Omega.{arith}
-use borrow.Author.Tests.{ltb-true, lt-ltb, le-ltb}
+use borrow.Author.Tests.{ltb-true, le-ltb}
 use lib.ListN.{length}
 use lib.Dec.{ltb}
-use Rattle.number.proofs.Laws.Choice.{and_right, clash}
-use Rattle.atom.specs.Atom.{at, atom_table}
-use Rattle.atom.specs.Atom.Field.{alternate, chain, insertion}
+use Rattle.std.specs.Prelude.{Option, Some, None}
+use Rattle.std.specs.List.{find}
+use Rattle.std.specs.Option.{is_some}
+use Rattle.atom.specs.Atom.{atom_table}
 use Rattle.field.specs.Table.{Entry}
-use Rattle.line.specs.Columns.{only}
+use Rattle.line.specs.Columns.{◌⋯◌, only}
 use Rattle.line.specs.declared.columns.Columns.{Columns}
-use Rattle.mend.specs.Mend.{cut, no_columns, columns_of, cut_in, or_cut, cut_among, cut_field, is_atom_line, left_cut}
+use Rattle.mend.specs.Mend.{cut, columns_of, cut_in, cut_field, is_atom_line, left_cut}
 
 -- a single column isn't cut
-pub one_uncut : (found : Columns) (k n : ℕ) → or_cut found (only k) n ≡ found
-unfolding or_cut
-one_uncut found k n = go (ltb 0 found.end) (ltb k n) refl
+pub one_uncut : (k n : ℕ) → cut (only k) n ≡ false
+one_uncut k n = go (ltb k n) refl
   where
-    pick : (b : Bool) → b ≡ false → cond b (only k) found ≡ found
-    pick false e = refl
-    pick true e = absurd (clash {b = true} refl e)
+    go : (y : Bool) → ltb k n ≡ y → y && ltb n (suc k) ≡ false
+    go false e = refl
+    go true e = le-ltb n (suc k) (let h = ltb-true k n e in omega arith)
 
-    go : (x y : Bool) → ltb k n ≡ y → cond x found (cond (y && ltb n (suc k)) (only k) found) ≡ found
-    go true y e = refl
-    go false false e = refl
-    go false true e = pick (ltb n (suc k)) (le-ltb n (suc k) (let h = ltb-true k n e in omega arith))
+abbrev pub fields : List Columns
+fields =
+    (30 ⋯ 38) ∷ (38 ⋯ 46) ∷ (46 ⋯ 54) ∷ (54 ⋯ 60) ∷ (60 ⋯ 66) ∷ (6 ⋯ 11) ∷ (12 ⋯ 16) ∷ (17 ⋯ 20) ∷ (22 ⋯ 26)
+    ∷ (72 ⋯ 76) ∷ (76 ⋯ 78) ∷ (78 ⋯ 80) ∷ []
 
-pub alternate_uncut : (found : Columns) (n : ℕ) → or_cut found (at alternate) n ≡ found
-alternate_uncut found n = one_uncut found 16 n
-
-pub chain_uncut : (found : Columns) (n : ℕ) → or_cut found (at chain) n ≡ found
-chain_uncut found n = one_uncut found 21 n
-
-pub insertion_uncut : (found : Columns) (n : ℕ) → or_cut found (at insertion) n ≡ found
-insertion_uncut found n = one_uncut found 26 n
-
--- columns that are cut end behind the line's end
-cut-ends : (at : Columns) (n : ℕ) → cut at n ≡ true → ltb 0 at.end ≡ true
-cut-ends at n e =
-    let h = ltb-true n at.end (and_right (ltb at.start n) (ltb n at.end) e) in
-    lt-ltb 0 at.end (omega arith)
-
--- what is found stays
-found_stays : (found : Columns) (es : List Entry) (n : ℕ) → ltb 0 found.end ≡ true → cut_among found es n ≡ found
-unfolding or_cut
-found_stays found [] n e = refl
-found_stays found (x ∷ es) n e = rw e (found_stays found es n e)
+pub cut-fields : (n : ℕ) → find (λ (at : Columns). cut at n) fields ≡ cut_field n
+unfolding cut_field
+cut-fields n = simp (one_uncut 16 n, one_uncut 21 n, one_uncut 26 n)
 
 module _ (n : ℕ) where
-  pub cut-found : (es : List Entry) → ltb 0 (cut_among no_columns es n).end ≡ cut_in es n
-  unfolding or_cut
+  pub cut-found : (es : List Entry) → is_some (find (λ (at : Columns). cut at n) (map columns_of es)) ≡ cut_in es n
   cut-found [] = refl
-  cut-found (x ∷ es) = go (cut (columns_of x) n) refl (cut-found es)
+  cut-found (e ∷ es) = go (cut (columns_of e) n) (cut-found es)
     where
-      go : (b : Bool) → cut (columns_of x) n ≡ b → ltb 0 (cut_among no_columns es n).end ≡ cut_in es n
-          → ltb 0 (cut_among (cond b (columns_of x) no_columns) es n).end ≡ b || cut_in es n
-      go true e h = rw (found_stays (columns_of x) es n (cut-ends (columns_of x) n e)) (cut-ends (columns_of x) n e)
-      go false e h = h
+      go : (b : Bool) → is_some (find (λ (at : Columns). cut at n) (map columns_of es)) ≡ cut_in es n
+          → is_some (cond b (Some (columns_of e)) (find (λ (at : Columns). cut at n) (map columns_of es))) ≡ b || cut_in es n
+      go true h = refl
+      go false h = h
 
-  pub cut-is : (es : List Entry) → cut_in es n ≡ true → cut (cut_among no_columns es n) n ≡ true
-  unfolding or_cut
-  cut-is [] h = absurd (clash h refl)
-  cut-is (x ∷ es) h = go (cut (columns_of x) n) refl (cut-is es) h
+  pub cut-is : (es : List Entry) (at : Columns) → find (λ (c : Columns). cut c n) (map columns_of es) ≡ Some at → cut at n ≡ true
+  cut-is [] at h = cc
+  cut-is (e ∷ es) at h = go (cut (columns_of e) n) refl (cut-is es at) h
     where
-      go : (b : Bool) → cut (columns_of x) n ≡ b → (cut_in es n ≡ true → cut (cut_among no_columns es n) n ≡ true) → b || cut_in es n ≡ true
-          → cut (cut_among (cond b (columns_of x) no_columns) es n) n ≡ true
-      go true e k f = rw (found_stays (columns_of x) es n (cut-ends (columns_of x) n e)) e
-      go false e k f = k f
+      go : (b : Bool) → cut (columns_of e) n ≡ b → (find (λ (c : Columns). cut c n) (map columns_of es) ≡ Some at → cut at n ≡ true)
+          → cond b (Some (columns_of e)) (find (λ (c : Columns). cut c n) (map columns_of es)) ≡ Some at → cut at n ≡ true
+      go true f k g = let same : columns_of e ≡ at = cc in rw (← same) f
+      go false f k g = k g
 
-  pub cut-told : ltb 0 (cut_field n).end ≡ cut_in atom_table n
+  pub cut-told : is_some (cut_field n) ≡ cut_in atom_table n
   unfolding cut_field
   cut-told = cut-found atom_table
 
+  -- whether there are some says whether one is cut
+  pub cut-by : (o : Option Columns) (b d : Bool) → o ≡ cut_field n → b ≡ is_some o → b ≡ d → cut_in atom_table n ≡ d
+  cut-by o b d e f g = sym cut-told ∙ ap (λ (x : Option Columns). is_some x) (sym e) ∙ sym f ∙ g
+
 module _ (l : List ℕ) where
-  pub left_when : ltb 0 (left_cut l).end ≡ is_atom_line l && cut_in atom_table (length l)
+  pub left_when : is_some (left_cut l) ≡ is_atom_line l && cut_in atom_table (length l)
   unfolding left_cut
   left_when = go (is_atom_line l)
     where
-      go : (b : Bool) → ltb 0 (cond b (cut_field (length l)) no_columns).end ≡ b && cut_in atom_table (length l)
+      go : (b : Bool) → is_some (cond b (cut_field (length l)) None) ≡ b && cut_in atom_table (length l)
       go true = cut-told (length l)
       go false = refl
 
-  pub left_is : ltb 0 (left_cut l).end ≡ true → cut (left_cut l) (length l) ≡ true
+  pub left_is : (at : Columns) → left_cut l ≡ Some at → cut at (length l) ≡ true
   unfolding left_cut cut_field
-  left_is = go (is_atom_line l)
+  left_is at = go (is_atom_line l)
     where
-      go : (b : Bool) → ltb 0 (cond b (cut_among no_columns atom_table (length l)) no_columns).end ≡ true
-          → cut (cond b (cut_among no_columns atom_table (length l)) no_columns) (length l) ≡ true
-      go true e = cut-is (length l) atom_table (sym (cut-found (length l) atom_table) ∙ e)
-      go false e = absurd (clash e refl)
+      go : (b : Bool) → cond b (find (λ (c : Columns). cut c (length l)) (map columns_of atom_table)) None ≡ Some at → cut at (length l) ≡ true
+      go true e = cut-is (length l) atom_table at e
+      go false e = cc

@@ -11,13 +11,15 @@ use borrow.Author.Tests.{ltb-false}
 use lib.ListN.{length, length-append}
 use lib.Dec.{eqb, ltb}
 use Rattle.line.specs.Bytes.{bytes}
+use Rattle.std.specs.Prelude.{Option, Some, None}
+use Rattle.line.specs.declared.columns.Columns.{Columns}
 use Rattle.mend.specs.Mend.{mended, left_cut}
 use Rattle.mend.specs.Changes.{Change, changes_of, what_number}
 use Rattle.mend.proofs.Laws.Mended.{mended-length, pad_within}
 use Rattle.mend.proofs.Laws.Changes.{changes_few}
 use Rattle.page.specs.Numerals.{decimal}
 use Rattle.page.proofs.Laws.Decimal.{decimal-most}
-use Rattle.repair.specs.Rows.{columns_text, done_text, row_by, change_rows, cut_row, cut_rows, over_row}
+use Rattle.repair.specs.Rows.{columns_text, done_text, row_by, change_rows, cut_row, cut_rows_for, cut_rows, over_row}
 use Rattle.repair.specs.Repair.{line_for, rows_for}
 
 columns-most : (number first last : ℕ) → length (columns_text number first last) ≤ 79
@@ -47,14 +49,14 @@ rows-most number (c ∷ cs) =
 
 cut_most : (number : ℕ) (l : List ℕ) → length (cut_rows number l) ≤ 140
 unfolding cut_rows cut_row
-cut_most number l = go (ltb 0 (left_cut l).end)
+cut_most number l = go (left_cut l)
   where
-    go : (b : Bool) → length (cond b (columns_text number ((left_cut l).start + 1) (left_cut l).end ++ bytes ": cut, so the line is left at " ++ decimal (length l) ++ bytes " bytes\n") []) ≤ 140
-    go true =
-        let a = columns-most number ((left_cut l).start + 1) (left_cut l).end in
+    go : (o : Option Columns) → length (cut_rows_for number (length l) o) ≤ 140
+    go (Some at) =
+        let a = columns-most number (at.start + 1) at.end in
         let d = decimal-most (length l) in
         simp length-append (omega arith)
-    go false = omega arith
+    go None = omega arith
 
 over-most : (number : ℕ) → length (over_row number) ≤ 140
 unfolding over_row

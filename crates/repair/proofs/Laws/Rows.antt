@@ -11,11 +11,12 @@ use mathlib.Core.Bool.{Bool, true, false, cond}
 use mathlib.Core.List.{List, [], ◌∷◌, ◌++◌, map, append-nil}
 use native.Mathlib.Numerals.{add-one}
 use native.Mathlib.Omega.{arith}
-use borrow.Author.Tests.{ltb-true, ltb-false, lt-ltb, le-ltb}
+use borrow.Author.Tests.{ltb-true, ltb-false}
 use lib.ListN.{length, drop, get_or, drop_of_length-le}
 use lib.Seq.{drop-cons}
 use lib.Dec.{eqb, ltb}
 use Rattle.line.specs.declared.columns.Columns.{Columns}
+use Rattle.std.specs.Prelude.{Some, None}
 use Rattle.mend.specs.Mend.{padding, left_cut}
 use Rattle.mend.specs.Changes.{What, Change, change, runs, changes_of, what_number, word, word_of}
 use Rattle.mend.proofs.Laws.Mended.{pad_within}
@@ -96,11 +97,11 @@ pub rows_told : (number : ℕ) (l : List ℕ) → length l ≤ 1024 → word_row
 rows_told number l h = rows_same number (changes_of l) (changes_small l h)
 
 -- ---- the row of a line that is cut
-module _ (l : List ℕ) (number : ℕ) (found : Columns) (p q : Page) (e : found ≡ left_cut l) where
-  pub cut-row : 0 < found.end → q ≡ put p (cut_row number found (length l)) → q ≡ put p (cut_rows number l)
+module _ (l : List ℕ) (number : ℕ) (p q : Page) where
+  pub cut-row : (found : Columns) → Some found ≡ left_cut l → q ≡ put p (cut_row number found (length l)) → q ≡ put p (cut_rows number l)
   unfolding cut_rows
-  cut-row h f = rw (← e, lt-ltb 0 found.end h) f
+  cut-row found e f = rw (← e) f
 
-  pub cut-none : (a : List ℕ) → found.end ≤ 0 → q ≡ put p a → q ≡ put p (a ++ cut_rows number l)
+  pub cut-none : (a : List ℕ) → None ≡ left_cut l → q ≡ put p a → q ≡ put p (a ++ cut_rows number l)
   unfolding cut_rows
-  cut-none a h f = rw (← e, le-ltb 0 found.end h, append-nil a) f
+  cut-none a e f = rw (← e, append-nil a) f

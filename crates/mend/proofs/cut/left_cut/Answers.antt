@@ -1,6 +1,6 @@
 -- `mend::cut::left_cut` meets its contract.
 -- Assumes nothing.
-use mathlib.Core.Path.{sym, ◌∙◌}
+use mathlib.Core.Path.{refl, sym, ◌∙◌}
 use Rattle.mend.specs.Mend.{left_cut}
 use Rattle.mend.proofs.cut.left_cut.Goals as goal
 
@@ -10,4 +10,4 @@ returns-then-is_atom c = rw (sym c.is_atom.ensures ∙ c.if-is_atom.true) c.cut_
 
 pub returns : goal.returns
 unfolding left_cut
-returns c = rw (sym c.is_atom.ensures ∙ c.if-is_atom.false) c.new.ensures
+returns c = rw (sym c.is_atom.ensures ∙ c.if-is_atom.false) refl
