@@ -2,15 +2,13 @@
 --     defaults    "Defaults: 0 for U, I and a faulted charge, 0.0 for R but 1.0 at 54..60, empty text, one blank for C. An empty text has place
 --                 0, length 0." A line of blanks or a cut one with its whole record, and the sort of each number field in its faults.
 --     readings    which triples are read, when a residue of the database is, what is trimmed, and how many digits stood after the point
-use Rattle.std.specs.Prelude.{ℕ, true, false, List, [], ◌∷◌, ◌++◌, map, pos, Float}
+use Rattle.std.specs.Prelude.{ℕ, true, false, List, [], ◌∷◌, ◌++◌, map, pos, Float, Option, Some, None}
 use Rattle.line.specs.Bytes.{bytes}
 use Rattle.atom.specs.declared.record.Basics.{Basics}
 use Rattle.lexitem.specs.declared.item.LexItem.TheVariants as item
 use Rattle.dbref.specs.declared.record.Segment.{Segment}
 use Rattle.seqadv.specs.declared.record.Target.{Target}
-use Rattle.seqadv.specs.declared.record.Target.TheVariants.{Residue, NoResidue}
-use Rattle.ssbond.specs.declared.record.Tail.{Tail}
-use Rattle.ssbond.specs.declared.record.Tail.TheVariants.{Bond, NoTail}
+use Rattle.ssbond.specs.declared.record.Bond.{Bond}
 use Rattle.line.specs.declared.options.Mode.{Mode}
 use Rattle.line.specs.declared.options.Mode.TheVariants.{Crate, WwPdb}
 use Rattle.line.specs.declared.fault.Sort.TheVariants.{Unsigned as U, Signed as I, Real as R}
@@ -128,7 +126,7 @@ dbref1_faults place length =
     ∷ fault 1 47 20
     ∷ [])
 
-abbrev seqadv : Target → Claim
+abbrev seqadv : Option Target → Claim
 seqadv target = is (item.Seqadv (record {
   code = none;
   residue = none;
@@ -141,12 +139,11 @@ seqadv target = is (item.Seqadv (record {
   comment = none;
 }))
 
-abbrev ssbond : Tail → Claim
+abbrev ssbond : Option Bond → Claim
 ssbond tail = is (item.SSBond (record {
   first = record { name = none; chain = At 15; number = pos 0; insertion = Absent };
   second = record { name = none; chain = At 29; number = pos 0; insertion = Absent };
   tail = tail;
-  places = 0;
 }))
 
 abbrev pub defaults : List Case
@@ -206,9 +203,9 @@ defaults =
     (is (item.Dbref2 (record { code = none; chain = none; accession = none; begin = pos 0; end = pos 0 }))
     ∷ faults (wrong I 45 10 ∷ wrong I 57 10 ∷ [])
     ∷ [])
-    ∷ on (filled 49 (bytes "SEQADV")) (seqadv NoResidue ∷ faults (wrong I 18 4 ∷ []) ∷ [])
+    ∷ on (filled 49 (bytes "SEQADV")) (seqadv None ∷ faults (wrong I 18 4 ∷ []) ∷ [])
     ∷ on (filled 49 (filled 39 (bytes "SEQADV") ++ bytes "ALA"))
-    (seqadv (Residue (record { place = 39; length = 3 }) (pos 0)) ∷ faults (wrong I 18 4 ∷ wrong I 43 5 ∷ []) ∷ [])
+    (seqadv (Some (record { name = record { place = 39; length = 3 }; number = pos 0 })) ∷ faults (wrong I 18 4 ∷ wrong I 43 5 ∷ []) ∷ [])
     ∷ on (filled 29 (bytes "MODRES"))
     (is (item.Modres (record {
       code = none;
@@ -221,8 +218,8 @@ defaults =
     }))
     ∷ faults (wrong I 18 4 ∷ [])
     ∷ [])
-    ∷ on (filled 36 (bytes "SSBOND")) (ssbond NoTail ∷ faults (wrong I 17 4 ∷ wrong I 31 4 ∷ []) ∷ [])
-    ∷ on (filled 78 (bytes "SSBOND")) (ssbond (Bond none none zero) ∷ faults (wrong I 17 4 ∷ wrong I 31 4 ∷ wrong R 73 5 ∷ []) ∷ [])
+    ∷ on (filled 36 (bytes "SSBOND")) (ssbond None ∷ faults (wrong I 17 4 ∷ wrong I 31 4 ∷ []) ∷ [])
+    ∷ on (filled 78 (bytes "SSBOND")) (ssbond (Some (record { first = none; second = none; length = zero; places = 0 })) ∷ faults (wrong I 17 4 ∷ wrong I 31 4 ∷ wrong R 73 5 ∷ []) ∷ [])
     ∷ on (bytes "REMARK 999 ") (is (item.Remark (record { number = 999; text = none })) ∷ faults [] ∷ [])
     ∷ on (filled 10 (bytes "REMARK")) (is (item.Remark (record { number = 0; text = none })) ∷ faults (wrong U 7 3 ∷ []) ∷ [])
     -- a number that isn't in the table, and one that is faulted, which is looked up as 0
@@ -259,10 +256,10 @@ readings =
     ∷ triples (thirteen ++ bytes " PHE") 13
     ∷ triples (bytes "ALA-   -ASN-ASP-CYS-GLN-GLU-GLY-HIS-ILE-LEU-LYS-MET") 1
     -- "if 39..48 isn't all blanks, T 39..42 and I 43..48": column 42 is of neither field, and 38 and 48 aren't among them
-    ∷ on (only 42 88) (seqadv (Residue none (pos 0)) ∷ faults (wrong I 18 4 ∷ wrong I 43 5 ∷ []) ∷ [])
-    ∷ on (only 47 53) (seqadv (Residue none (pos 5)) ∷ faults (wrong I 18 4 ∷ []) ∷ [])
-    ∷ on (only 38 88) (seqadv NoResidue ∷ faults (wrong I 18 4 ∷ []) ∷ [])
-    ∷ on (only 48 88) (seqadv NoResidue ∷ faults (wrong I 18 4 ∷ []) ∷ [])
+    ∷ on (only 42 88) (seqadv (Some (record { name = none; number = pos 0 })) ∷ faults (wrong I 18 4 ∷ wrong I 43 5 ∷ []) ∷ [])
+    ∷ on (only 47 53) (seqadv (Some (record { name = none; number = pos 5 })) ∷ faults (wrong I 18 4 ∷ []) ∷ [])
+    ∷ on (only 38 88) (seqadv None ∷ faults (wrong I 18 4 ∷ []) ∷ [])
+    ∷ on (only 48 88) (seqadv None ∷ faults (wrong I 18 4 ∷ []) ∷ [])
     -- "text from 11 with its end trimmed", and T, which is trimmed at both ends
     ∷ on (bytes "REMARK   2   TEXT  ") (field item.Remark (λ r. r.text) (record { place = 11; length = 6 }) ∷ faults [] ∷ [])
     ∷ on (filled 29 (bytes "MODRES") ++ bytes "  TEXT  ") (field item.Modres (λ m. m.comment) (record { place = 31; length = 4 }) ∷ [])

@@ -2,7 +2,7 @@
 -- one that has nothing to change either.
 --     with_exponents    an input with the option on or off
 --     idle             no exponent stands in a real field of the line
-use Rattle.std.specs.Prelude.{ℕ, Bool, true, false, ◌&&◌, List, [], ◌∷◌, Option, is_none}
+use Rattle.std.specs.Prelude.{ℕ, Bool, true, ◌&&◌, List, [], ◌∷◌, is_none}
 use Rattle.number.specs.Wide.{marked_of}
 use Rattle.line.specs.Columns.{part_of}
 use Rattle.field.specs.Table.{Entry}

@@ -1,25 +1,23 @@
 -- "Refusals by number, in order of testing: given exactly when, place, length." The table of 01 once more, in words of numbers: a rule says which
 -- refusals it gives, and a line's refusal is what the first rule that holds gives. One list serves the three entries: "the first gives refusals 2
 -- and 3 only. The second tests its line again: 1, 2, 3, then a new 15, then the rest." Nothing here is a test.
-use Rattle.std.specs.Prelude.{ℕ, ◌-◌, ◌^◌, ◌<◌, ◌≤◌, min, ◌≡◌, ◌≢◌, ◌⊎◌, false, List, [], ◌∷◌, length, get_or}
+use Rattle.std.specs.Prelude.{ℕ, ◌-◌, ◌^◌, ◌<◌, ◌≤◌, min, ◌≡◌, ◌≢◌, ◌⊎◌, false, List, [], ◌∷◌, length, get_or, Result, Ok, Err}
 use Rattle.number.specs.Trim.{end_trimmed}
-use Rattle.lexitem.specs.declared.answer.Outcome.{Outcome}
-use Rattle.lexitem.specs.declared.answer.Outcome.TheVariants.{Accepted, Refused}
 use Rattle.lexitem.specs.declared.answer.Refusal.{Refusal}
 use Rattle.kind.specs.declared.Kind.{Kind}
 use Rattle.kind.specs.declared.Kind.TheVariants.{Header, Remark, Cryst1, Seqadv, Modres, Ssbond}
 use Rattle.lexer.specs.Lexed.{lexed, lexed_as, kind_asked}
 use Rattle.lexer.specs.Refusals.{Input, Asking, kind, given}
 use Rattle.lexer.specs.Refusals.Asking.{its_kind, its_record, record_as}
-use Rattle.lexer.specs.declared.Asked.TheVariants as asked
 use Rattle.lexitem.specs.Describe.{item_of}
 use Rattle.lexitem.specs.Answer.{refusal}
+use Rattle.lexitem.specs.declared.item.LexItem.{LexItem}
 
 -- "For an answer that is an enum, a definition gives this paper's number and values for each case": an outcome by its number, place and length;
 -- 0, which is no refusal's number, stands for a record
-abbrev pub numbers_of : Outcome → ℕ × ℕ × ℕ
-numbers_of (Accepted x) = (0, 0, 0)
-numbers_of (Refused r) = (r.number, r.place, r.length)
+abbrev pub numbers_of : Result LexItem Refusal → ℕ × ℕ × ℕ
+numbers_of (Ok x) = (0, 0, 0)
+numbers_of (Err r) = (r.number, r.place, r.length)
 
 -- a rule, as which refusals it gives
 abbrev pub Rule : Type 1
@@ -114,15 +112,15 @@ OneOf n (m ∷ ms) = (n ≡ m) ⊎ OneOf n ms
 -- ---- what an entry answers
 -- a refusal
 abbrev pub Refuses : Asking → Input → Refusal → Type 0
-Refuses its_kind i r = kind_asked i.line i.options ≡ asked.Refused r
-Refuses its_record i r = (lexed i).outcome ≡ Refused r
-Refuses (record_as k) i r = (lexed_as k i).outcome ≡ Refused r
+Refuses its_kind i r = kind_asked i.line i.options ≡ Err r
+Refuses its_record i r = (lexed i).outcome ≡ Err r
+Refuses (record_as k) i r = (lexed_as k i).outcome ≡ Err r
 
 -- the line's kind, or the record of its kind
 abbrev pub Answers : Asking → Input → Type 0
-Answers its_kind i = kind_asked i.line i.options ≡ asked.Is (kind i)
-Answers its_record i = (lexed i).outcome ≡ Accepted (item_of (kind i) (given i))
-Answers (record_as k) i = (lexed_as k i).outcome ≡ Accepted (item_of (kind i) (given i))
+Answers its_kind i = kind_asked i.line i.options ≡ Ok (kind i)
+Answers its_record i = (lexed i).outcome ≡ Ok (item_of (kind i) (given i))
+Answers (record_as k) i = (lexed_as k i).outcome ≡ Ok (item_of (kind i) (given i))
 
 -- the rule doesn't hold
 abbrev pub Silent : Rule → Type 0

@@ -9,8 +9,8 @@
 use Prim.Native.Nat.{◌≤◌}
 use mathlib.Core.Path.{◌≡◌, refl}
 use mathlib.Core.Bool.{Bool, false}
-use lib.ListN.{length, replicate}
 use Rattle.std.specs.Prelude.{Ok}
+use lib.ListN.{length, replicate}
 use Rattle.line.specs.Bytes.{bytes}
 use Rattle.line.specs.Columns.{part_of}
 use Rattle.line.specs.Faults.{no_faults, noted}

@@ -11,8 +11,7 @@ use Rattle.lexitem.specs.Describe.{item_of}
 use Rattle.lexitem.specs.declared.item.LexItem.{LexItem}
 use Rattle.lexitem.specs.declared.item.LexItem.TheVariants as item
 use Rattle.atom.specs.declared.record.Atom.{Atom as AtomRecord}
-use Rattle.transformation.specs.declared.record.Scale.{Scale as ScaleRecord}
-use Rattle.transformation.specs.declared.record.OrigX.{OrigX}
+use Rattle.transformation.specs.declared.record.NumberedRow.{NumberedRow}
 use Rattle.transformation.specs.declared.record.MtriX.{MtriX}
 use Rattle.matrix.specs.Apply.{coordinate}
 use Rattle.matrix.specs.Bound.{NearExact}
@@ -52,11 +51,11 @@ accepted-held i x accepts = rw (accepted-item i x accepts) (kind-held (kind i) (
 
 -- ---- the bound, for lines
 module _ (i j : Input) (a : AtomRecord) (p : (lexed i).outcome ≡ Ok (item.Atom a)) where
-  pub scale-near : (r : ScaleRecord) (q : (lexed j).outcome ≡ Ok (item.Scale r))
+  pub scale-near : (r : NumberedRow) (q : (lexed j).outcome ≡ Ok (item.Scale r))
       → NearExact (coordinate r.values a.position) (accepted-held j (item.Scale r) q) (accepted-held i (item.Atom a) p)
   scale-near r q = coordinate-near r.values a.position (accepted-held j (item.Scale r) q) (accepted-held i (item.Atom a) p)
 
-  pub origx-near : (r : OrigX) (q : (lexed j).outcome ≡ Ok (item.OrigX r))
+  pub origx-near : (r : NumberedRow) (q : (lexed j).outcome ≡ Ok (item.OrigX r))
       → NearExact (coordinate r.values a.position) (accepted-held j (item.OrigX r) q) (accepted-held i (item.Atom a) p)
   origx-near r q = coordinate-near r.values a.position (accepted-held j (item.OrigX r) q) (accepted-held i (item.Atom a) p)
 

@@ -70,10 +70,8 @@ module _ (l : List ℕ) (on : Bool) where
   entry_alike (u at) h = tt
   entry_alike (i at) h = tt
   entry_alike (r at default) h =
-      let same = said-idle (part_of l at) h on in (
-        ap (λ (read : Option Real). (unwrap_or read (real default 0)).value) same,
-        ap (λ (read : Option Real). (unwrap_or read (real zero_real 0)).places) same,
-      )
+      let idle = said-idle (part_of l at) h on in
+      (ap (λ (o : Option Real). (unwrap_or o (real default 0)).value) idle, ap (λ (o : Option Real). (unwrap_or o (real zero_real 0)).places) idle)
   entry_alike (t at) h = tt
   entry_alike (c at) h = tt
   entry_alike (c? at) h = tt

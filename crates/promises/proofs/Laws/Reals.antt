@@ -75,16 +75,16 @@ integer-said (Some z) {s} {m} {p} {lower} {x} e =
     (sym (ap (λ (w : Wide). w.exponent) same), sym (ap (λ (w : Wide). w.lower) same))
 
 -- a double alone, and its places
-value-of : {default : Float} (r : Option RealRead) → (unwrap_or r (real default 0)).value ≡ unwrap_or (option_map (λ r. r.value) r) default
-value-of (Some r) = refl
-value-of None = refl
+value-of : (default : Float) (o : Option RealRead) → (unwrap_or o (real default 0)).value ≡ unwrap_or (option_map (λ (read : RealRead). read.value) o) default
+value-of default (Some read) = refl
+value-of default None = refl
 
-some-value : (r : Option RealRead) → is_some r ≡ is_some (option_map (λ r. r.value) r)
-some-value (Some r) = refl
+some-value : (o : Option RealRead) → is_some o ≡ is_some (option_map (λ (read : RealRead). read.value) o)
+some-value (Some read) = refl
 some-value None = refl
 
 abbrev places_in : Option RealRead → ℕ
-places_in r = (unwrap_or r (real zero_real 0)).places
+places_in o = (unwrap_or o (real zero_real 0)).places
 
 module _ (i : Input) (item : LexItem) (yes : (lexed i).outcome ≡ Ok item) where
   abbrev faults : List Fault
@@ -120,7 +120,7 @@ module _ (i : Input) (item : LexItem) (yes : (lexed i).outcome ≡ Ok item) wher
         short = ltb (length i.line) at.end;
         none = λ short. rw (part-short i.line at short, real-none (on_in i)) refl;
         reads = decimal-reads (on_in i) part;
-        value = (real-row at default y n m k).0 ∙ value-of (real_with (on_in i) part);
+        value = (real-row at default y n m k).0 ∙ value-of default (real_with (on_in i) part);
         named-is =
             rw line-faults
             (chosen-named at (given i) (table_in i)

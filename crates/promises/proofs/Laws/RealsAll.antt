@@ -7,10 +7,10 @@ use mathlib.Core.Path.{◌≡◌, refl, sym, ap}
 use mathlib.Core.Logic.{◌⊎◌, inl, inr, ⊎_elim}
 use mathlib.Core.Bool.{Bool, true, false, cond}
 use mathlib.Core.List.{List, [], ◌∷◌, Memᴰ}
+use Rattle.std.specs.Prelude.{Ok}
 use native.Mathlib.Omega.{arith}
 use lib.Dec.{ltb}
 use lib.Ieee.{Float}
-use Rattle.std.specs.Prelude.{Ok}
 use Rattle.number.specs.Whole.{signed_of}
 use Rattle.real.specs.Wide.{said_with, scale_with}
 use Rattle.line.specs.Columns.{part_of}

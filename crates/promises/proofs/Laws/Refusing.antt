@@ -21,6 +21,7 @@ use mathlib.Core.Logic.Iff
 use mathlib.Core.Logic.{◌≢◌, ◌↔◌, ◌⊎◌, inl, inr, ⊎_elim}
 use mathlib.Core.Bool.{Bool, true, false, cond, ◌&&◌}
 use mathlib.Core.List.{List, [], ◌∷◌}
+use Rattle.std.specs.Prelude.{Result, Ok, Err}
 use native.Mathlib.Omega.{arith}
 use borrow.Author.Tests.{ltb-true}
 use lib.Dec.{T, ltb}
@@ -30,8 +31,6 @@ use Rattle.number.proofs.Laws.Choice.{clash}
 use Rattle.line.specs.Faults.{no_faults, listed}
 use Rattle.lexitem.specs.Fault.{no_line_faults, stamped_as, told}
 use Rattle.lexitem.specs.declared.answer.Answer.{Answer}
-use Rattle.lexitem.specs.declared.answer.Outcome.{Outcome}
-use Rattle.lexitem.specs.declared.answer.Outcome.TheVariants.{Accepted, Refused}
 use Rattle.lexitem.specs.declared.answer.Refusal.{Refusal}
 use Rattle.lexitem.specs.declared.item.LexItem.{LexItem}
 use Rattle.kind.specs.Name.{kept_by_atoms}
@@ -43,8 +42,6 @@ use Rattle.lexitem.specs.Describe.{item_of}
 use Rattle.lexer.specs.Lexed.{refused, accepted, first_of, lexed, lexed_as, kind_asked}
 use Rattle.lexer.specs.Refusals.{Input, Test, Asking, kind, given, tests}
 use Rattle.lexer.specs.Refusals.Asking.{its_kind, its_record, record_as}
-use Rattle.lexer.specs.declared.Asked.{Asked}
-use Rattle.lexer.specs.declared.Asked.TheVariants as asked
 use Rattle.promises.specs.Refusing.{numbers_of, Rule, Least, Silent, First, Passed, OneOf, Refuses, Answers, reading, numbers, rules, table_rule, length_rule, byte_rule, kind_rule, header_rule, remark_rule, least_rule}
 use Rattle.promises.proofs.Laws.Agreeing.{AllAgree, rules-agree}
 
@@ -123,30 +120,24 @@ one-above n (m ∷ ms) h (inl e) = let above = ltb-true 0 m (is_true (ltb 0 m) (
 one-above n (m ∷ ms) h (inr o) = one-above n ms (and_r (ltb 0 m) (are_above ms) h) o
 
 -- ---- demand 1
-refused-tells : (r s : Refusal) → Refused r ≡ Refused s → r ≡ s
+refused-tells : {A : Type 0} (r s : Refusal) → ◌≡◌ {A = Result A Refusal} (Err r) (Err s) → r ≡ s
 refused-tells r s e = cc
 
-not_both : (r : Refusal) {x : LexItem} → Refused r ≡ Accepted x → ⊥
+not_both : {A : Type 0} (r : Refusal) {x : A} → ◌≡◌ {A = Result A Refusal} (Err r) (Ok x) → ⊥
 not_both r e = let z : ◌≡◌ {A = ℕ} 0 1 = cc in omega arith
-
-asked-tells : (r s : Refusal) → asked.Refused r ≡ asked.Refused s → r ≡ s
-asked-tells r s e = cc
-
-asked-both : (r : Refusal) {k : Kind} → asked.Refused r ≡ asked.Is k → ⊥
-asked-both r e = let z : ◌≡◌ {A = ℕ} 0 1 = cc in omega arith
 
 module _ (i : Input) where
   abbrev item : LexItem
   item = item_of (kind i) (given i)
 
   -- the outcome of an entry that reads
-  outcome_is : (a : Asking) → (first_of (refused i) (tests a i) (accepted i)).outcome ≡ first_of Refused (tests a i) (Accepted item)
+  outcome_is : (a : Asking) → (first_of (refused i) (tests a i) (accepted i)).outcome ≡ first_of Err (tests a i) (Ok item)
   outcome_is a = first_part (λ (b : Answer). b.outcome) (refused i) (accepted i) (tests a i)
 
-  nothing : (a : Asking) (r : Refusal) → (first_of (refused i) (tests a i) (accepted i)).outcome ≡ Refused r
+  nothing : (a : Asking) (r : Refusal) → (first_of (refused i) (tests a i) (accepted i)).outcome ≡ Err r
       → (first_of (refused i) (tests a i) (accepted i)).faults ≡ no_line_faults
   nothing a r =
-      first_any (λ (b : Answer). b.outcome ≡ Refused r → b.faults ≡ no_line_faults) (refused i) (accepted i) (λ s e. refl)
+      first_any (λ (b : Answer). b.outcome ≡ Err r → b.faults ≡ no_line_faults) (refused i) (accepted i) (λ s e. refl)
       (λ e. absurd (not_both r (sym e)))
       (tests a i)
 
@@ -155,38 +146,38 @@ module _ (i : Input) where
 
   pub refused_when : (a : Asking) (r : Refusal) → Refuses a i r ↔ First (rules a i) r
   unfolding lexed lexed_as kind_asked
-  refused_when its_kind r = first-refused asked.Refused (asked.Is (kind i)) asked-tells (λ s e. asked-both s e) (tests its_kind i) (rules its_kind i) (rules-agree i its_kind) r
+  refused_when its_kind r = first-refused Err (Ok (kind i)) refused-tells (λ s e. not_both s e) (tests its_kind i) (rules its_kind i) (rules-agree i its_kind) r
   refused_when its_record r =
       rw (outcome_is its_record)
-      (first-refused Refused (Accepted item) refused-tells (λ s e. not_both s e) (tests its_record i) (rules its_record i) (rules-agree i its_record) r)
+      (first-refused Err (Ok item) refused-tells (λ s e. not_both s e) (tests its_record i) (rules its_record i) (rules-agree i its_record) r)
   refused_when (record_as k) r =
       rw (outcome_is (record_as k))
-      (first-refused Refused (Accepted item) refused-tells (λ s e. not_both s e) (tests (record_as k) i) (rules (record_as k) i) (rules-agree i (record_as k)) r)
+      (first-refused Err (Ok item) refused-tells (λ s e. not_both s e) (tests (record_as k) i) (rules (record_as k) i) (rules-agree i (record_as k)) r)
 
   pub accepted_exactly : (a : Asking) → Answers a i ↔ Passed (rules a i)
   unfolding lexed lexed_as kind_asked
-  accepted_exactly its_kind = first-passed asked.Refused (asked.Is (kind i)) asked-tells (λ s e. asked-both s e) (tests its_kind i) (rules its_kind i) (rules-agree i its_kind)
+  accepted_exactly its_kind = first-passed Err (Ok (kind i)) refused-tells (λ s e. not_both s e) (tests its_kind i) (rules its_kind i) (rules-agree i its_kind)
   accepted_exactly its_record =
       rw (outcome_is its_record)
-      (first-passed Refused (Accepted item) refused-tells (λ s e. not_both s e) (tests its_record i) (rules its_record i) (rules-agree i its_record))
+      (first-passed Err (Ok item) refused-tells (λ s e. not_both s e) (tests its_record i) (rules its_record i) (rules-agree i its_record))
   accepted_exactly (record_as k) =
       rw (outcome_is (record_as k))
-      (first-passed Refused (Accepted item) refused-tells (λ s e. not_both s e) (tests (record_as k) i) (rules (record_as k) i) (rules-agree i (record_as k)))
+      (first-passed Err (Ok item) refused-tells (λ s e. not_both s e) (tests (record_as k) i) (rules (record_as k) i) (rules-agree i (record_as k)))
 
   pub refused_or_accepted : (a : Asking) → ((r : Refusal) × Refuses a i r) ⊎ Answers a i
   unfolding lexed lexed_as kind_asked
   refused_or_accepted its_kind =
-      first_any (λ (x : Asked). ((r : Refusal) × (x ≡ asked.Refused r)) ⊎ (x ≡ asked.Is (kind i))) asked.Refused (asked.Is (kind i))
+      first_any (λ (x : Result Kind Refusal). ((r : Refusal) × (x ≡ Err r)) ⊎ (x ≡ Ok (kind i))) Err (Ok (kind i))
       (λ r. inl (r, refl))
       (inr refl)
       (tests its_kind i)
   refused_or_accepted its_record =
-      first_any (λ (x : Answer). ((r : Refusal) × (x.outcome ≡ Refused r)) ⊎ (x.outcome ≡ Accepted item)) (refused i) (accepted i)
+      first_any (λ (x : Answer). ((r : Refusal) × (x.outcome ≡ Err r)) ⊎ (x.outcome ≡ Ok item)) (refused i) (accepted i)
       (λ r. inl (r, refl))
       (inr refl)
       (tests its_record i)
   refused_or_accepted (record_as k) =
-      first_any (λ (x : Answer). ((r : Refusal) × (x.outcome ≡ Refused r)) ⊎ (x.outcome ≡ Accepted item)) (refused i) (accepted i)
+      first_any (λ (x : Answer). ((r : Refusal) × (x.outcome ≡ Err r)) ⊎ (x.outcome ≡ Ok item)) (refused i) (accepted i)
       (λ r. inl (r, refl))
       (inr refl)
       (tests (record_as k) i)
@@ -194,8 +185,8 @@ module _ (i : Input) where
   pub refused_once : (a : Asking) (r s : Refusal) → First (rules a i) r → First (rules a i) s → r ≡ s
   refused_once a r s p q = refused-tells r s (sym ((given_by r).1 p) ∙ (given_by s).1 q)
     where
-      given_by : (t : Refusal) → (first_of Refused (tests a i) (Accepted item) ≡ Refused t) ↔ First (rules a i) t
-      given_by = first-refused Refused (Accepted item) refused-tells (λ s e. not_both s e) (tests a i) (rules a i) (rules-agree i a)
+      given_by : (t : Refusal) → (first_of Err (tests a i) (Ok item) ≡ Err t) ↔ First (rules a i) t
+      given_by = first-refused Err (Ok item) refused-tells (λ s e. not_both s e) (tests a i) (rules a i) (rules-agree i a)
 
   pub refusal-numbered : (a : Asking) (r : Refusal) → First (rules a i) r → OneOf r.number (numbers a)
   refusal-numbered its_kind r (inl (none, h)) = absurd none
@@ -226,12 +217,12 @@ module _ (i : Input) where
       inr (inr (inr (inr (inr (inr (inl (number_is e)))))))
   refusal-numbered (record_as k) r (inr (_, inr (_, inr (_, inr (_, inr (_, inr (_, inr (_, h)))))))) = absurd h
 
-  pub zero-accepted : (numbers_of (lexed i).outcome).0 ≡ 0 → (x : LexItem) × ((lexed i).outcome ≡ Accepted x)
+  pub zero-accepted : (numbers_of (lexed i).outcome).0 ≡ 0 → (x : LexItem) × ((lexed i).outcome ≡ Ok x)
   zero-accepted = go (lexed i).outcome refl
     where
-      go : (o : Outcome) → (lexed i).outcome ≡ o → (numbers_of o).0 ≡ 0 → (x : LexItem) × ((lexed i).outcome ≡ Accepted x)
-      go (Accepted x) e z = (x, e)
-      go (Refused r) e z =
+      go : (o : Result LexItem Refusal) → (lexed i).outcome ≡ o → (numbers_of o).0 ≡ 0 → (x : LexItem) × ((lexed i).outcome ≡ Ok x)
+      go (Ok x) e z = (x, e)
+      go (Err r) e z =
           let n = one-above r.number (numbers its_record) tt (refusal-numbered its_record r ((refused_when its_record r).0 e)) in
           absurd (omega arith)
 
@@ -240,21 +231,21 @@ module _ (i : Input) where
   refused_by_number n place length some =
       (go (lexed i).outcome refl, λ h. ap numbers_of ((refused_when its_record (refusal n place length)).1 h))
     where
-      go : (o : Outcome) → (lexed i).outcome ≡ o → numbers_of o ≡ (n, place, length) → First (rules its_record i) (refusal n place length)
-      go (Accepted x) e z = let zero : 0 ≡ n = ap (λ (t : ℕ × ℕ × ℕ). t.0) z in absurd (omega arith)
-      go (Refused r) e z =
+      go : (o : Result LexItem Refusal) → (lexed i).outcome ≡ o → numbers_of o ≡ (n, place, length) → First (rules its_record i) (refusal n place length)
+      go (Ok x) e z = let zero : 0 ≡ n = ap (λ (t : ℕ × ℕ × ℕ). t.0) z in absurd (omega arith)
+      go (Err r) e z =
           (refused_when its_record (refusal n place length)).0
-          (e ∙ ap (λ (t : ℕ × ℕ × ℕ). Refused (refusal t.0 t.1 t.2)) z)
+          (e ∙ ap (λ (t : ℕ × ℕ × ℕ). Err (refusal t.0 t.1 t.2)) z)
 
-  pub refusal-empty : (r : Refusal) → (lexed i).outcome ≡ Refused r → (lexed i).faults ≡ no_line_faults
+  pub refusal-empty : (r : Refusal) → (lexed i).outcome ≡ Err r → (lexed i).faults ≡ no_line_faults
   unfolding lexed
   refusal-empty = nothing its_record
 
-  pub as_refusal_empty : (k : Kind) (r : Refusal) → (lexed_as k i).outcome ≡ Refused r → (lexed_as k i).faults ≡ no_line_faults
+  pub as_refusal_empty : (k : Kind) (r : Refusal) → (lexed_as k i).outcome ≡ Err r → (lexed_as k i).faults ≡ no_line_faults
   unfolding lexed_as
   as_refusal_empty k = nothing (record_as k)
 
-  pub refusal_unlisted : (r : Refusal) → (lexed i).outcome ≡ Refused r → told (lexed i).faults ≡ []
+  pub refusal_unlisted : (r : Refusal) → (lexed i).outcome ≡ Err r → told (lexed i).faults ≡ []
   unfolding told stamped_as listed no_faults
   refusal_unlisted r e = rw (refusal-empty r e) refl
 
