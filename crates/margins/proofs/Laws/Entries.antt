@@ -122,7 +122,9 @@ module _ (l m : List ℕ) where
   unfolding unsigned_at signed_at real_at places_at text_at character_at optional_at factor_at unsigned_from text_within text_from end_text_from charge_at
   same_entry taken (u at) q h = rw (part_same l m at q h) refl
   same_entry taken (i at) q h = rw (part_same l m at q h) refl
-  same_entry taken (r at default) q h = (rw (part_same l m at q h) refl, rw (part_same l m at q h) refl)
+  same_entry taken (r at default) q h =
+      let part = part_same l m at q h in
+      (rw (part, real_at) refl, rw (part, places_at) refl)
   same_entry taken (t at) q h = rw (part_same l m at q h) refl
   same_entry taken (c at) q h = rw q refl
   same_entry taken (c? at) q h = rw (q, h at.start (eq-eqb at.start at.start refl)) refl

@@ -12,6 +12,7 @@ use Prim.Native.Nat.{ℕ}
 use mathlib.Core.Path.{◌≡◌, refl, sym, ap, ◌∙◌}
 use mathlib.Core.Bool.{Bool, true, false, ◌||◌}
 use mathlib.Core.List.{List}
+use Rattle.std.specs.Prelude.{Ok, Err}
 use borrow.Author.Tests.{eqb-true, eqb-false}
 use lib.ListN.{get_or}
 use lib.Dec.{eqb}
@@ -22,7 +23,6 @@ use Rattle.line.specs.declared.options.Mode.{Mode}
 use Rattle.lexitem.specs.Describe.{describe, bound_of, table_of, fields_by, item_of, faults_of}
 use Rattle.lexer.specs.Lexed.{refused, accepted, first_of, lexed, lexed_as, bare, kind_asked}
 use Rattle.lexer.specs.Refusals.{Input, Test, Asking, kind, given, faults, plain, tests}
-use Rattle.lexer.specs.declared.Asked.TheVariants as asked
 use Rattle.lexer.specs.Refusals.Asking.{its_kind, its_record, record_as}
 use Rattle.margins.specs.Taken.{table_takes, decides, given_to}
 use Rattle.margins.specs.Differ.{Differ, with_line}
@@ -120,5 +120,5 @@ margins-kind i m d =
     let own = bare i.line i.options in
     let other = bare m i.options in
     let alone : Differ own m = record { long = d.long; first = d.first; low = d.low; other = d.other; only = d.only } in
-    ap (λ (ts : List Test). first_of asked.Refused ts (asked.Is (kind own))) (tests_same own m alone its_kind)
-    ∙ ap (λ (k : Kind). first_of asked.Refused (tests its_kind other) (asked.Is k)) (kinds-same own m alone)
+    ap (λ (ts : List Test). first_of Err ts (Ok (kind own))) (tests_same own m alone its_kind)
+    ∙ ap (λ (k : Kind). first_of Err (tests its_kind other) (Ok k)) (kinds-same own m alone)

@@ -19,7 +19,7 @@ use Rattle.dbref.specs.Dbref.{dbref1_table, dbref1_of}
 use Rattle.model.specs.Model.{model_table, model_of}
 use Rattle.seqadv.specs.Seqadv as seqadv
 use Rattle.seqadv.specs.Seqadv.{has_target, seqadv_table, target_of, seqadv_of}
-use Rattle.ssbond.specs.Ssbond.{has_tail, ssbond_table, tail_of, tail_places}
+use Rattle.ssbond.specs.Ssbond.{has_tail, ssbond_table, tail_of}
 use Rattle.margins.specs.Taken.{decides}
 use Rattle.margins.proofs.Laws.Parts.{part_same}
 use Rattle.margins.proofs.Laws.Entries.{on, AllSame}
@@ -67,10 +67,6 @@ module _ (l m : List ℕ) where
   tail-same taken true s = cc
   tail-same taken false s = refl
 
-  tail-counted : (taken b : Bool) → AllSame l m taken (ssbond_table b) → tail_places b taken l ≡ tail_places b taken m
-  tail-counted taken true s = cc
-  tail-counted taken false s = refl
-
   model-same : (taken : Bool) (mode : Mode) → AllSame l m taken (model_table mode) → model_of mode l ≡ model_of mode m
   model-same taken Crate s = cc
   model-same taken WwPdb s = cc
@@ -102,7 +98,6 @@ module _ (l m : List ℕ) where
     item-same Modres p s = cc
     item-same Ssbond p s =
         let z = tail-same options.exponents (has_tail l) s in
-        let n = tail-counted options.exponents (has_tail l) s in
         cc
     item-same Endmdl p s = refl
     item-same Ter p s = refl
