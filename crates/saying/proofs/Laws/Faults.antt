@@ -11,8 +11,9 @@ use mathlib.Core.List.{List, [], ◌∷◌, ◌++◌}
 use native.Mathlib.Omega.{arith}
 use lib.Dec.{ltb}
 use lib.ListN.{length, get_or}
+use Rattle.std.specs.Prelude.{is_some}
 use Rattle.field.specs.Charge.{is_sign, charged, charge_faults, charge_faults_of}
-use Rattle.field.specs.Number.{is_u, number_faults, unsigned_from_faults}
+use Rattle.field.specs.Number.{number_faults, unsigned_from_faults}
 use Rattle.field.specs.Remark.{is_known, known_faults}
 use Rattle.field.specs.Table.{Entry, faults_by, table_faults}
 use Rattle.field.specs.Table.Entry.{u, i, r, t, c, c?, a, u-rest, x, t_within, t-rest, t-end, charge, known, given, unwritten, triples}
@@ -74,7 +75,7 @@ module _ (l : List ℕ) (at : Columns) (h : at.start < 1024) where
 module _ (g : Given) where
   rest-placed : (start : ℕ) → start < 1024 → All Placed (unsigned_from_faults g.line start)
   unfolding unsigned_from_faults
-  rest-placed start h = all_either Placed (is_u (unsigned_of (rest_of g.line start))) [] _ tt (omega arith, tt)
+  rest-placed start h = all_either Placed (is_some (unsigned_of (rest_of g.line start))) [] _ tt (omega arith, tt)
 
   entry_placed : (e : Entry) → Narrow e → All Placed (faults_by g e)
   entry_placed (u at) n = number-placed g.line at n.0 _ _

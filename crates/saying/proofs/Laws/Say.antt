@@ -9,6 +9,7 @@ use Prim.Native.Nat.{ℕ, ◌-◌, ◌/◌, ◌^◌, ◌≤◌, ◌<◌}
 use mathlib.Core.Path.{◌≡◌, refl, sym, ap, ◌∙◌}
 use mathlib.Core.Bool.{Bool, true, false, cond, not}
 use mathlib.Core.List.{List, [], ◌∷◌, ◌++◌}
+use Rattle.std.specs.Prelude.{Result, Ok, Err}
 use native.Mathlib.Omega.{arith}
 use borrow.Author.Tests.{le-leb, le-ltb, ltb-true, ltb-false}
 use lib.Dec.{ltb, leb, eqb}
@@ -28,15 +29,11 @@ use Rattle.lexitem.specs.Describe.{fields_of}
 use Rattle.lexitem.specs.Fault.{told, faults_in}
 use Rattle.lexitem.specs.Shown.{held}
 use Rattle.lexitem.specs.declared.answer.Answer.{Answer}
-use Rattle.lexitem.specs.declared.answer.Outcome.{Outcome}
-use Rattle.lexitem.specs.declared.answer.Outcome.TheVariants.{Accepted}
-use Rattle.lexitem.specs.declared.answer.Outcome.TheVariants as outcome
 use Rattle.lexitem.specs.declared.answer.Refusal.{Refusal}
 use Rattle.lexitem.specs.declared.item.LexItem.{LexItem}
 use Rattle.listing.proofs.Laws.Longest.{listing_longest}
 use Rattle.listing.specs.Listed.{ListedInto, fitted_answer, fitted_bytes, listed_answer, listed_bytes, listing_by, measured}
 use Rattle.listing.specs.Listing.{listing_of, longest}
-use Rattle.listing.specs.declared.Listed.TheVariants.{Written, Refused}
 use Rattle.reading.proofs.Laws.Read.{answered-lexed, room-enough}
 use Rattle.reading.specs.Faults.{fault_words, faults_words}
 use Rattle.reading.specs.Read.{kind_numbered, answered, too_few_of, read_word, fields_left, faults_left, Reads}
@@ -54,13 +51,13 @@ rows_say : (l : List ℕ) (rows : List Row) → All (Sound l) rows → All (λ r
 rows_say l [] h = tt
 rows_say l (row ∷ rows) h = (row-says l row h.0, rows_say l rows h.1)
 
-module _ (i : Input) (x : LexItem) (yes : (lexed i).outcome ≡ Accepted x) where
+module _ (i : Input) (x : LexItem) (yes : (lexed i).outcome ≡ Ok x) where
   abbrev l : List ℕ
   l = i.line
 
   -- the third test is that of the bytes
   third_failed : (b c d : Bool) (q r s : Refusal) (else : Answer)
-      → (cond b (refused i q) (cond c (refused i r) (cond d (refused i s) else))).outcome ≡ Accepted x → d ≡ false
+      → (cond b (refused i q) (cond c (refused i r) (cond d (refused i s) else))).outcome ≡ Ok x → d ≡ false
   third_failed true c d q r s else e = cc
   third_failed false true d q r s else e = cc
   third_failed false false true q r s else e = cc
@@ -98,9 +95,9 @@ module _ (i : Input) (x : LexItem) (yes : (lexed i).outcome ≡ Accepted x) wher
 
 -- ---- the entries
 -- a refusal has a number
-abbrev Numbered : Outcome → Type 0
-Numbered (Accepted x) = Unit {0}
-Numbered (outcome.Refused r) = 1 ≤ r.number
+abbrev Numbered : Result LexItem Refusal → Type 0
+Numbered (Ok x) = Unit {0}
+Numbered (Err r) = 1 ≤ r.number
 
 abbrev Gives : Test → Type 0
 Gives t = 1 ≤ t.gives.number
@@ -126,53 +123,54 @@ answer-numbered n i = go (eqb n (2 ^ 32 - 1))
     go false = first-numbered i (tests (record_as (kind_numbered n)) i) (tests_give (record_as (kind_numbered n)) i)
 
 -- what is written is the listing
-written : (before listing after : List ℕ) (m : ℕ) → Written m ≡ fitted_answer (length before) listing → after ≡ fitted_bytes before listing
+written : (before listing after : List ℕ) (m : ℕ) → Ok m ≡ fitted_answer (length before) listing → after ≡ fitted_bytes before listing
     → take m after ≡ listing
 written before listing after m e f = go (leb (length listing) (length before)) e f
   where
-    go : (b : Bool) → Written m ≡ cond b (Written (length listing)) (Refused (record { number = 8; place = 0; length = length listing }))
+    go : (b : Bool)
+        → ◌≡◌ {A = Result ℕ Refusal} (Ok m) (cond b (Ok (length listing)) (Err (record { number = 8; place = 0; length = length listing })))
         → after ≡ cond b (listing ++ drop (length listing) before) before → take m after ≡ listing
     go true e f =
         let n : m ≡ length listing = cc in rw (f, n) (take-append_seam listing (drop (length listing) before))
     go false e f = cc
 
 -- what is left on lent words where the answer is 0
-module _ (l : List ℕ) (a : Answer) (x : LexItem) (old other new others : List ℕ) (yes : a.outcome ≡ Accepted x) (reads : Reads l a old other 0 new others) where
+module _ (l : List ℕ) (a : Answer) (x : LexItem) (old other new others : List ℕ) (yes : a.outcome ≡ Ok x) (reads : Reads l a old other 0 new others) where
   enough : too_few_of (length old) (length other) ≡ false
   enough =
-      let room = room-enough (length old) (length other) 0 (reads.answer ∙ ap (λ (o : Outcome). read_word o (length old) (length other)) yes) refl in
+      let room = room-enough (length old) (length other) 0 (reads.answer ∙ ap (λ (o : Result LexItem Refusal). read_word o (length old) (length other)) yes) refl in
       rw (le-ltb (length old) 34 room.0, le-ltb (length other) 31 room.1) refl
 
   fields-left : new ≡ over (field_words l x) old
-  fields-left = reads.fields ∙ ap (λ (o : Outcome). fields_left o l old other) yes ∙ rw enough refl
+  fields-left = reads.fields ∙ ap (λ (o : Result LexItem Refusal). fields_left o l old other) yes ∙ rw enough refl
 
   faults-left : others ≡ over (faults_words (told a.faults)) other
-  faults-left = reads.faults ∙ ap (λ (o : Outcome). faults_left a o old other) yes ∙ rw enough refl
+  faults-left = reads.faults ∙ ap (λ (o : Result LexItem Refusal). faults_left a o old other) yes ∙ rw enough refl
 
 module _ (n : ℕ) (i : Input) (old other new others : List ℕ) (reads : Reads i.line (answered n i) old other 0 new others) where
-  module _ (x : LexItem) (yes : (answered n i).outcome ≡ Accepted x) where
-    pub words_say : ((lexed i).outcome ≡ Accepted x) × (said i.number i.line new others ≡ listing_by i x)
+  module _ (x : LexItem) (yes : (answered n i).outcome ≡ Ok x) where
+    pub words_say : ((lexed i).outcome ≡ Ok x) × (said i.number i.line new others ≡ listing_by i x)
     words_say =
         let same = answered-lexed n i x yes in
-        let so : (lexed i).outcome ≡ Accepted x = ap (λ (a : Answer). a.outcome) (sym same) ∙ yes in
+        let so : (lexed i).outcome ≡ Ok x = ap (λ (a : Answer). a.outcome) (sym same) ∙ yes in
         let all = lexed_say i x so (drop (length (field_words i.line x)) old) (drop (length (faults_words (told (lexed i).faults))) other) in (
           so,
           rw (fields-left i.line (answered n i) x old other new others yes reads, faults-left i.line (answered n i) x old other new others yes reads, same) all,
         )
 
   -- a refusal's answer isn't 0
-  where_read : {A : Type 0} → ((x : LexItem) → (answered n i).outcome ≡ Accepted x → A) → A
+  where_read : {A : Type 0} → ((x : LexItem) → (answered n i).outcome ≡ Ok x → A) → A
   where_read {A} gives = go (answered n i).outcome refl
     where
-      go : (o : Outcome) → (answered n i).outcome ≡ o → A
-      go (Accepted x) is = gives x is
-      go (outcome.Refused r) is =
+      go : (o : Result LexItem Refusal) → (answered n i).outcome ≡ o → A
+      go (Ok x) is = gives x is
+      go (Err r) is =
           let some = rw is at (answer-numbered n i) in
-          let none = reads.answer ∙ ap (λ (o : Outcome). read_word o (length old) (length other)) is in
+          let none = reads.answer ∙ ap (λ (o : Result LexItem Refusal). read_word o (length old) (length other)) is in
           absurd (omega arith)
 
   module _ (before after : List ℕ) (m : ℕ) where
-    pub words-written : ListedInto before i (Written m) after → take m after ≡ said i.number i.line new others
+    pub words-written : ListedInto before i (Ok m) after → take m after ≡ said i.number i.line new others
     words-written h =
         where_read
         (λ x is.
@@ -186,6 +184,6 @@ module _ (n : ℕ) (i : Input) (old other new others : List ℕ) (reads : Reads 
         (λ x is.
         let so = (words_say x is).0 in
         let short = le-leb (length (listing_by i x)) (length before) (omega (arith, listing_longest i x so)) in
-        let all : measured (length before) i ≡ Written (length (listing_by i x)) = ap (listed_answer (length before) i) so ∙ rw short refl in
+        let all : measured (length before) i ≡ Ok (length (listing_by i x)) = ap (listed_answer (length before) i) so ∙ rw short refl in
         let many : m ≡ length (listing_by i x) = h.answer ∙ ap written_by all in
-        words-written (record { answer = ap Written many ∙ sym all; bytes = h.bytes }))
+        words-written (record { answer = ap Ok many ∙ sym all; bytes = h.bytes }))
