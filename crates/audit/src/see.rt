@@ -121,12 +121,10 @@ pub fn see_lines(watch: Watch, file: &[u8]) -> Watch
     let mut w = watch;
     let mut at = 0;
     // No iterator counts this: each line says where the next one begins.
-    loop {
-        let Some(here) = step(file, at) else {
-            return w;
-        };
+    while let Some(here) = step(file, at) {
         let text = line(file, here.start, here.end);
         w = see_line(w, text, text.len(), here.next - at);
         at = here.next;
     }
+    w
 }

@@ -10,8 +10,8 @@ use Rattle.audit.proofs.see.see_lines.Goals as goal
 pub loop-here-init : goal.loop-here-init
 loop-here-init c = refl
 
-pub returns-in_default : goal.returns-in_default
-returns-in_default c = turn_end _ _ _ _ c.loop-here.invariant (sym c.step.ensures ∙ c.in_default.is)
+pub returns : goal.returns
+returns c = turn_end _ _ _ _ c.loop-here.invariant (sym c.step.ensures ∙ c.in_default.is)
 
 pub overflow_sub-here : goal.overflow_sub-here
 overflow_sub-here c =
