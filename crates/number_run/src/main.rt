@@ -41,11 +41,13 @@ fn print_r(rt: &impl Print, text: &[u8]) -> Result<()> {
 
 fn print_d(rt: &impl Print, text: &[u8]) -> Result<()> {
     match read_decimal(text) {
-        Some(Decimal {
-            minus,
-            digits,
-            places,
-        }) => print!(rt; " D={}{digits}/{places}", if minus { '-' } else { '+' }),
+        Some(
+            Decimal {
+                minus,
+                digits,
+                places,
+            },
+        ) => print!(rt; " D={}{digits}/{places}", if minus { '-' } else { '+' }),
         None => print!(rt; " D=-"),
     }
 }

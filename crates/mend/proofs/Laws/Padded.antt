@@ -6,7 +6,7 @@
 --     padded-turned   so in all of ATOM's table
 -- Assumes nothing.
 use Prim.Native.Nat.{ℕ, zero, suc, ◌+◌, ◌-◌, ◌<◌, ◌≤◌}
-use mathlib.Core.Path.{◌≡◌, refl, sym, ◌∙◌}
+use mathlib.Core.Path.{◌≡◌, refl, sym, ap, ◌∙◌}
 use mathlib.Core.Bool.{Bool, true, false, cond, not, ◌&&◌, ◌||◌}
 use mathlib.Core.List.{List, [], ◌∷◌}
 use native.Mathlib.Omega.{arith}
@@ -15,16 +15,18 @@ use lib.ListN.{length, take, drop, get_or, replicate, length-replicate, length-t
 use lib.Seq.{ext_get_or, get_or-take, get_or-drop}
 use lib.Dec.{ltb, leb, eqb}
 use lib.Ieee.{Float}
+use Rattle.std.specs.Prelude.{Option, unwrap_or}
 use Rattle.number.specs.Trim.{white, leading, kept, end_trimmed, trimmed, span_of}
 use Rattle.number.specs.Whole.{unsigned_of, signed_of}
 use Rattle.number.specs.Decimal.{decimal_of}
 use Rattle.number.proofs.Laws.Choice.{and_left, and_right, and_both, clash}
 use Rattle.number.specs.Wide.{wide_of, marked_of}
-use Rattle.real.specs.Real.{real_of}
+use Rattle.real.specs.Real.{real, real_of}
+use Rattle.real.specs.declared.Real.{Real}
 use Rattle.real.specs.Wide.{real_with}
 use Rattle.atom.specs.Atom.{atom_table}
 use Rattle.field.specs.Charge.{charge_at, charge_faults, charged, both_blank}
-use Rattle.field.specs.Number.{number_faults, short_at, wrong_at, unsigned_at, signed_at, real_at, places_at}
+use Rattle.field.specs.Number.{zero_real, number_faults, short_at, wrong_at, unsigned_at, signed_at, real_at, places_at}
 use Rattle.field.specs.Table.{Entry, faults_by}
 use Rattle.field.specs.Table.Entry.{u, i, r, t, c, c?, a, u-rest, x, t_within, t-rest, t-end, charge, known, given, unwritten, triples}
 use Rattle.field.specs.Text.{text_at, text_faults, character_at, optional_at, character_faults, unreached}
@@ -187,10 +189,12 @@ module _ (options : Options) (remarks l : List ℕ) where
       unfolding number_faults real_at places_at
       real-turned default =
           let taken = options.exponents in
-          let e = real-blanks taken (at.end - at.start) ∙ real-none taken in (
+          let e = real-blanks taken (at.end - at.start) ∙ real-none taken in
+          let same : real_with taken (part_of l at) ≡ real_with taken (part_of (mended l) at)
+          = rw (empty, blank, e) (real-none taken) in (
             rw was refl,
             rw (is, blank, e) refl,
-            (rw (empty, blank, e, real-none taken) refl, rw (empty, blank, e, real-none taken) refl),
+            (ap (λ (s : Option Real). (unwrap_or s (real default 0)).value) same, ap (λ (s : Option Real). (unwrap_or s (real zero_real 0)).places) same),
           )
 
       unsigned-turned : Turned (u at)
