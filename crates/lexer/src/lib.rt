@@ -12,6 +12,7 @@ mod bound;
 
 use crate::bound::test_own;
 use atom::read::lex_atom;
+use atom::record::Atom;
 use kind::numbered::number_of;
 use kind::{Kind, kind_of};
 use lexitem::answer::{Answer, Refusal};
@@ -146,6 +147,17 @@ fn accept(line: usize, kind: Kind, got: Got<LexItem>) -> Answer
     }
 }
 
+// An atom, with its faults, as a record among the others.
+#[inline(always)]
+fn atom_item(got: Got<Atom>) -> Got<LexItem>
+    ensures { result ≡ record { value = LexItem.Atom got.value; faults = got.faults } }
+{
+    Got {
+        value: LexItem::Atom(got.value),
+        faults: got.faults,
+    }
+}
+
 // Nearly every line of a file is an atom. Apart from the readers of all other kinds, which are large, reading one can stand where it is asked for.
 fn lex_kind(number: usize, kind: Kind, line: &[u8], options: Options, remarks: &[u8]) -> Answer
     ensures { result ≡ steps.answer_of number kind (got_item kind (record { line = line.entry.now; options = options; remarks = remarks.now })) }
@@ -154,12 +166,12 @@ fn lex_kind(number: usize, kind: Kind, line: &[u8], options: Options, remarks: &
         Kind::Atom => accept(
             number,
             kind,
-            lex_atom(line, false, options.exponents).map(LexItem::Atom),
+            atom_item(lex_atom(line, false, options.exponents)),
         ),
         Kind::Hetatm => accept(
             number,
             kind,
-            lex_atom(line, true, options.exponents).map(LexItem::Atom),
+            atom_item(lex_atom(line, true, options.exponents)),
         ),
         _ => accept(number, kind, lex_as(kind, line, options, remarks)),
     }

@@ -19,7 +19,21 @@ use seqres::read::lex_seqres;
 use ssbond::read::lex_ssbond;
 use transformation::read::{lex_mtrix, lex_numbered};
 
+// What f makes of what was read, with the same faults.
+#[inline(always)]
+fn map<T, F: FnOnce(T) -> LexItem>(got: Got<T>, f: F) -> Got<LexItem>
+    requires { F.pre f got.value }
+    ensures value { F.post f got.value result.value }
+    ensures faults { result.faults ≡ got.faults }
+{
+    Got {
+        value: f(got.value),
+        faults: got.faults,
+    }
+}
+
 // A kind that has no fields.
+#[inline(always)]
 fn bare(item: LexItem) -> Got<LexItem>
     ensures { result ≡ bare_of item }
 {
@@ -35,24 +49,24 @@ pub fn lex_as(kind: Kind, line: &[u8], options: Options, remarks: &[u8]) -> Got<
     let exponents = options.exponents;
     match kind {
         Kind::Empty => bare(LexItem::Empty),
-        Kind::Header => lex_header().map(LexItem::Header),
-        Kind::Remark => lex_remark(line, remarks).map(LexItem::Remark),
-        Kind::Atom => lex_atom(line, false, exponents).map(LexItem::Atom),
-        Kind::Hetatm => lex_atom(line, true, exponents).map(LexItem::Atom),
-        Kind::Anisou => lex_anisou(line).map(LexItem::Anisou),
-        Kind::Cryst1 => lex_cryst(line, exponents).map(LexItem::Crystal),
-        Kind::Scale(row) => lex_numbered(line, row, exponents).map(LexItem::Scale),
-        Kind::Origx(row) => lex_numbered(line, row, exponents).map(LexItem::OrigX),
-        Kind::Mtrix(row) => lex_mtrix(line, row, exponents).map(LexItem::MtriX),
-        Kind::Model => lex_model(line, options.mode).map(LexItem::Model),
-        Kind::Master => lex_master(line).map(LexItem::Master),
-        Kind::Dbref => lex_dbref(line).map(LexItem::Dbref),
-        Kind::Dbref1 => lex_dbref1(line, options.mode).map(LexItem::Dbref1),
-        Kind::Dbref2 => lex_dbref2(line).map(LexItem::Dbref2),
-        Kind::Seqres => lex_seqres(line).map(LexItem::Seqres),
-        Kind::Seqadv => lex_seqadv(line).map(LexItem::Seqadv),
-        Kind::Modres => lex_modres(line).map(LexItem::Modres),
-        Kind::Ssbond => lex_ssbond(line, exponents).map(LexItem::SSBond),
+        Kind::Header => map(lex_header(), LexItem::Header),
+        Kind::Remark => map(lex_remark(line, remarks), LexItem::Remark),
+        Kind::Atom => map(lex_atom(line, false, exponents), LexItem::Atom),
+        Kind::Hetatm => map(lex_atom(line, true, exponents), LexItem::Atom),
+        Kind::Anisou => map(lex_anisou(line), LexItem::Anisou),
+        Kind::Cryst1 => map(lex_cryst(line, exponents), LexItem::Crystal),
+        Kind::Scale(row) => map(lex_numbered(line, row, exponents), LexItem::Scale),
+        Kind::Origx(row) => map(lex_numbered(line, row, exponents), LexItem::OrigX),
+        Kind::Mtrix(row) => map(lex_mtrix(line, row, exponents), LexItem::MtriX),
+        Kind::Model => map(lex_model(line, options.mode), LexItem::Model),
+        Kind::Master => map(lex_master(line), LexItem::Master),
+        Kind::Dbref => map(lex_dbref(line), LexItem::Dbref),
+        Kind::Dbref1 => map(lex_dbref1(line, options.mode), LexItem::Dbref1),
+        Kind::Dbref2 => map(lex_dbref2(line), LexItem::Dbref2),
+        Kind::Seqres => map(lex_seqres(line), LexItem::Seqres),
+        Kind::Seqadv => map(lex_seqadv(line), LexItem::Seqadv),
+        Kind::Modres => map(lex_modres(line), LexItem::Modres),
+        Kind::Ssbond => map(lex_ssbond(line, exponents), LexItem::SSBond),
         Kind::Endmdl => bare(LexItem::EndModel),
         Kind::Ter => bare(LexItem::Ter),
         Kind::End => bare(LexItem::End),

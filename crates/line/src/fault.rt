@@ -102,17 +102,3 @@ pub struct Got<T> {
     pub value: T,
     pub faults: Faults,
 }
-
-impl<T> Got<T> {
-    // What f makes of the value, with the same faults.
-    pub fn map<U, F: FnOnce(T) -> U>(self, f: F) -> Got<U>
-        requires { F.pre f self.value }
-        ensures value { F.post f self.value result.value }
-        ensures faults { result.faults ≡ self.faults }
-    {
-        Got {
-            value: f(self.value),
-            faults: self.faults,
-        }
-    }
-}

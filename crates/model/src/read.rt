@@ -16,5 +16,8 @@ pub fn lex_model(line: &[u8], mode: Mode) -> Got<Model>
         Mode::Crate => unsigned_from(line, Model::NUMBER, none),
         Mode::WwPdb => unsigned(line, Model::SERIAL, none),
     };
-    number.map(|number| Model::new(number, mode))
+    Got {
+        value: Model::new(number.value, mode),
+        faults: number.faults,
+    }
 }

@@ -9,7 +9,11 @@ use field::number_field::{real, unsigned};
 use line::fault::{Faults, Got};
 
 // The four values with their places.
-fn lex_values(line: &[u8], exponents: bool, faults: Faults) -> Got<(Transformation, RowPlaces)>
+fn lex_transformation(
+    line: &[u8],
+    exponents: bool,
+    faults: Faults,
+) -> Got<(Transformation, RowPlaces)>
     ensures { result ≡ record { value = (specs.transformation_of exponents line.now, specs.row_places_of exponents line.now); faults = table_noted (taking exponents line.now) specs.transformation_table faults } }
 {
     let a = real(line, Transformation::A, 0.0, exponents, faults);
@@ -33,8 +37,12 @@ fn lex_values(line: &[u8], exponents: bool, faults: Faults) -> Got<(Transformati
 pub fn lex_numbered(line: &[u8], row: usize, exponents: bool) -> Got<NumberedRow>
     ensures { result ≡ specs.got_numbered row (taking exponents line.now) }
 {
-    let got = lex_values(line, exponents, Faults::none());
-    got.map(|(values, places)| NumberedRow::new(row, values, places))
+    let got = lex_transformation(line, exponents, Faults::none());
+    let (values, places) = got.value;
+    Got {
+        value: NumberedRow::new(row, values, places),
+        faults: got.faults,
+    }
 }
 
 // An MTRIXn, which is given if a `1` stands in that column.
@@ -42,7 +50,11 @@ pub fn lex_mtrix(line: &[u8], row: usize, exponents: bool) -> Got<MtriX>
     ensures { result ≡ specs.got_mtri_x row (taking exponents line.now) }
 {
     let serial = unsigned(line, MtriX::SERIAL, Faults::none());
-    let got = lex_values(line, exponents, serial.faults);
+    let got = lex_transformation(line, exponents, serial.faults);
     let given = line.get(MtriX::GIVEN) == Some(&b'1');
-    got.map(|(values, places)| MtriX::new(row, serial.value, values, places, given))
+    let (values, places) = got.value;
+    Got {
+        value: MtriX::new(row, serial.value, values, places, given),
+        faults: got.faults,
+    }
 }

@@ -1,9 +1,8 @@
 -- The contract of each public function asks nothing and leaves one answer, with one content of all that is lent to be written.
 -- Assumes nothing.
-use mathlib.Core.Path.{◌≡◌, refl, sym, ◌∙◌}
+use mathlib.Core.Path.{refl}
 use Rattle.single.specs.One.{One, OneBy}
 use Rattle.single.proofs.Laws.One.{equation}
-use Rattle.line.specs.declared.fault.Got.{Got}
 use Rattle.line.specs.contracts as its
 
 pub columns_new_one : One its.columns.Columns.new.ended (λ M 𝓤. its.columns.Columns.new.clauses)
@@ -38,8 +37,3 @@ text_new_one w κs a g = equation w (λ u v. refl)
 
 pub view_one : OneBy its.text.view.ended (λ M 𝓤. its.text.view.clauses) (λ κs. (λ x. x.now))
 view_one w κs a g = equation w (λ u v. refl)
-
--- `Got::map` asks what its closure asks, of the value, and leaves one answer where the closure does: so its two clauses say.
-pub got_map_one : {T U : Type 0} (post : T → U → Type 0) → ((x : T) (y z : U) → post x y → post x z → y ≡ z) → (g : Got T) (r s : Got U)
-    → post g.value r.value × (r.faults ≡ g.faults) → post g.value s.value × (s.faults ≡ g.faults) → r ≡ s
-got_map_one post one g r s p q = λ i. record { value = one g.value r.value s.value p.0 q.0 i; faults = (p.1 ∙ sym q.1) i }
