@@ -36,7 +36,7 @@
 // are 0, and no output is sent. What is left of a block when it isn't a whole request has one such reply.
 #![tactic(auto)]
 
-ghost use Rattle.std.specs.Prelude.{◌+◌, ◌<◌, ◌≤◌, length, IfOk};
+ghost use Rattle.std.specs.Prelude.{◌+◌, ◌<◌, ◌≤◌, length, IfOk, IfSome};
 
 use lexer::lex_line;
 use lexitem::item::LexItem;
@@ -412,7 +412,9 @@ fn answer_all(
 
 // Takes a block, or None where there is no more, or one that is empty, too long or not whole. It is read whole before the first reply is written: so
 // whoever sends it whole before taking the first, and takes them all before the next, never waits in vain.
-fn read_block<'a>(input: &mut impl Read, block: &'a mut [u8]) -> Option<&'a [u8]> {
+fn read_block<'a>(input: &mut impl Read, block: &'a mut [u8]) -> Option<&'a [u8]>
+    ensures { IfSome result (λ whole. length whole.now ≤ length block.old) }
+{
     let mut head = [0u8; WORD];
     input.read_exact(&mut head).ok()?;
     let size = usize::from_le_bytes(head);
