@@ -1,7 +1,7 @@
 -- "ATOM, HETATM: U 6..11, T 12..16, C 16, T 17..20, C 21, I 22..26, C 26, R 30..38 38..46 46..54 54..60 60..66, T 72..76 76..78, charge
 -- 78..80. ANISOU: as ATOM, but for the R: I 28..35 35..42 42..49 49..56 56..63 63..70, each made a double and divided by 10000.0."
 -- "Faults stand in ascending columns, except that ATOM puts 30..66 and ANISOU 28..70 first."
-use Rattle.std.specs.Prelude.{ℕ, ◌≡◌, Bool, true, false, List, [], ◌∷◌, ◌++◌, Option, IfSome}
+use Rattle.std.specs.Prelude.{ℕ, ◌≡◌, Bool, true, false, cond, List, [], ◌∷◌, ◌++◌, Option, Some, None, IfSome}
 use Rattle.field.specs.Charge.{charge_at}
 use Rattle.field.specs.Number.{unsigned_at, signed_at, real_at, places_at, factor_at, zero_real, one_real}
 use Rattle.field.specs.Table.{Entry, line_fine, table_noted}
@@ -135,7 +135,7 @@ abbrev pub SaysBasics : List ℕ → Option Basics → Type 0
 SaysBasics l got = IfSome got (λ v. (v ≡ basics_of l) × (line_fine l basics_table ≡ true))
 
 abbrev pub SaysPosition : List ℕ → Option Placed → Type 0
-SaysPosition l got = IfSome got (λ v. (v ≡ placed_of false l) × (line_fine l position_table ≡ true))
+SaysPosition l got = got ≡ cond (line_fine l position_table) (Some (placed_of false l)) None
 
 abbrev pub SaysAtom : Bool → List ℕ → Option Atom → Type 0
 SaysAtom hetero l got = IfSome got (λ v. (v ≡ atom_of hetero false l) × (line_fine l atom_table ≡ true))
