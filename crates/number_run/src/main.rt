@@ -10,36 +10,49 @@ use number::trim::{read_text, trim_end};
 use number::whole::{read_signed, read_unsigned};
 use page::bits_of;
 use real::{Real, read_real, read_ten_thousandths};
-use std::io::Result;
+
+// Each text is tried, whatever became of those before it.
+fn put(rt: &impl Print, text: &[u8]) {
+    let _ = rt.write_all(text);
+}
 
 // The bits of a double, and its places.
-fn print_real(rt: &impl Print, x: f64, places: usize) -> Result<()> {
-    print!(rt; "{:016X}/{places}", bits_of(x))
+fn print_real(rt: &impl Print, x: f64, places: usize) {
+    let _ = print!(rt; "{:016X}", bits_of(x));
+    put(rt, b"/");
+    let _ = print!(rt; "{places}");
 }
 
-fn print_u(rt: &impl Print, text: &[u8]) -> Result<()> {
+fn print_u(rt: &impl Print, text: &[u8]) {
+    put(rt, b"U=");
     match read_unsigned(text) {
-        Some(n) => print!(rt; "U={n}"),
-        None => print!(rt; "U=-"),
+        Some(n) => {
+            let _ = print!(rt; "{n}");
+        }
+        None => put(rt, b"-"),
     }
 }
 
-fn print_i(rt: &impl Print, text: &[u8]) -> Result<()> {
+fn print_i(rt: &impl Print, text: &[u8]) {
+    put(rt, b" I=");
     match read_signed(text) {
-        Some(n) => print!(rt; " I={n}"),
-        None => print!(rt; " I=-"),
+        Some(n) => {
+            let _ = print!(rt; "{n}");
+        }
+        None => put(rt, b"-"),
     }
 }
 
-fn print_r(rt: &impl Print, text: &[u8]) -> Result<()> {
-    print!(rt; " R=")?;
+fn print_r(rt: &impl Print, text: &[u8]) {
+    put(rt, b" R=");
     match read_real(text) {
         Some(real) => print_real(rt, real.value, real.places as usize),
-        None => print!(rt; "-"),
+        None => put(rt, b"-"),
     }
 }
 
-fn print_d(rt: &impl Print, text: &[u8]) -> Result<()> {
+fn print_d(rt: &impl Print, text: &[u8]) {
+    put(rt, b" D=");
     match read_decimal(text) {
         Some(
             Decimal {
@@ -47,74 +60,86 @@ fn print_d(rt: &impl Print, text: &[u8]) -> Result<()> {
                 digits,
                 places,
             },
-        ) => print!(rt; " D={}{digits}/{places}", if minus { '-' } else { '+' }),
-        None => print!(rt; " D=-"),
+        ) => {
+            put(rt, if minus { b"-" } else { b"+" });
+            let _ = print!(rt; "{digits}");
+            put(rt, b"/");
+            let _ = print!(rt; "{places}");
+        }
+        None => put(rt, b"-"),
     }
 }
 
-fn print_a(rt: &impl Print, text: &[u8]) -> Result<()> {
-    print!(rt; " A=")?;
+fn print_a(rt: &impl Print, text: &[u8]) {
+    put(rt, b" A=");
     match read_ten_thousandths(text) {
         Some(x) => print_real(rt, x, 0),
-        None => print!(rt; "-"),
+        None => put(rt, b"-"),
     }
 }
 
-fn print_t(rt: &impl Print, text: &[u8]) -> Result<()> {
+fn print_t(rt: &impl Print, text: &[u8]) {
+    put(rt, b" T=");
     let span = read_text(text);
-    print!(rt; " T={},{}", span.place, span.length)
+    let _ = print!(rt; "{}", span.place);
+    put(rt, b",");
+    let _ = print!(rt; "{}", span.length);
 }
 
-fn print_e(rt: &impl Print, text: &[u8]) -> Result<()> {
-    print!(rt; " E={}", trim_end(text).len())
+fn print_e(rt: &impl Print, text: &[u8]) {
+    put(rt, b" E=");
+    let _ = print!(rt; "{}", trim_end(text).len());
 }
 
 // A double in so many columns.
-fn print_cell(rt: &impl Print, x: f64, width: usize, places: usize) -> Result<()> {
+fn print_cell(rt: &impl Print, x: f64, width: usize, places: usize) {
     let mut bytes = [0u8; 10];
     let cell = cell::put_real(&mut bytes, 0, width, places, x);
-    print!(rt; "[")?;
-    if let Some(put) = bytes.get(..cell.next) {
-        rt.write_all(put)?;
+    put(rt, b"[");
+    if let Some(text) = bytes.get(..cell.next) {
+        put(rt, text);
     }
-    print!(rt; "{}", if cell.fits { "]" } else { "]!" })
+    put(rt, b"]");
+    if !cell.fits {
+        put(rt, b"!");
+    }
 }
 
 // In the columns and places of a coordinate, of a B factor, and of a row of a matrix.
-fn print_w(rt: &impl Print, text: &[u8]) -> Result<()> {
-    print!(rt; " W=")?;
+fn print_w(rt: &impl Print, text: &[u8]) {
+    put(rt, b" W=");
     let Some(Real { value, .. }) = read_real(text) else {
-        return print!(rt; "-");
+        put(rt, b"-");
+        return;
     };
-    print_cell(rt, value, 8, 3)?;
-    print_cell(rt, value, 6, 2)?;
-    print_cell(rt, value, 10, 6)
+    print_cell(rt, value, 8, 3);
+    print_cell(rt, value, 6, 2);
+    print_cell(rt, value, 10, 6);
 }
 
-fn print_line(rt: &impl Print, text: &[u8]) -> Result<()> {
-    print_u(rt, text)?;
-    print_i(rt, text)?;
-    print_r(rt, text)?;
-    print_d(rt, text)?;
-    print_a(rt, text)?;
-    print_t(rt, text)?;
-    print_e(rt, text)?;
-    print_w(rt, text)?;
-    println!(rt)
+fn print_line(rt: &impl Print, text: &[u8]) {
+    print_u(rt, text);
+    print_i(rt, text);
+    print_r(rt, text);
+    print_d(rt, text);
+    print_a(rt, text);
+    print_t(rt, text);
+    print_e(rt, text);
+    print_w(rt, text);
+    put(rt, b"\n");
 }
 
 // A line for each text that an LF ends.
-fn print_lines(rt: &impl Print, input: &[u8]) -> Result<()> {
+fn print_lines(rt: &impl Print, input: &[u8]) {
     for piece in input.split_inclusive(|b| *b == b'\n') {
         if let Some(text) = piece.strip_suffix(b"\n") {
-            print_line(rt, text)?;
+            print_line(rt, text);
         }
     }
-    Ok(())
 }
 
 fn main(rt: HostRuntime) {
     let mut input = [0u8; 65536];
     let n = read_full(&mut rt.stdin(), &mut input);
-    let _ = print_lines(&rt, &input[..n]);
+    print_lines(&rt, &input[..n]);
 }

@@ -7,7 +7,6 @@ use carry::held::Held;
 use intake::read_full;
 use parts::{feed, finish};
 use std::fs;
-use std::io::Result;
 use std::rt::Files;
 
 // More bytes, and more turns, than the files ask for.
@@ -95,28 +94,34 @@ fn try_all(file: &[u8], twice: bool, whole: &[u8]) -> Tried {
     tried
 }
 
-fn try_cuts(rt: &impl Print, file: &[u8], twice: bool) -> Result<()> {
+fn print_number(rt: &impl Print, label: &[u8], n: u32) {
+    let _ = rt.write_all(label);
+    let _ = rt.println(n);
+}
+
+fn try_cuts(rt: &impl Print, file: &[u8], twice: bool) {
     let mut space = [0u8; MANY];
     let n = put_cut(file, 0, 0, &mut space);
     let Some(whole) = space.get(..n) else {
-        return Ok(());
+        return;
     };
-    rt.write_all(whole)?;
+    let _ = rt.write_all(whole);
     let tried = try_all(file, twice, whole);
-    println!(rt; "ways={}", tried.ways)?;
-    println!(rt; "others={}", tried.others)
+    print_number(rt, b"ways=", tried.ways);
+    print_number(rt, b"others=", tried.others);
 }
 
 fn try_file(rt: &(impl Files + Print + Eprint), path: &str, twice: bool) {
-    let tried = match fs::open(rt, path) {
+    match fs::open(rt, path) {
         Ok(mut file) => {
             let mut space = [0u8; 4096];
             let size = read_full(&mut file, &mut space);
-            try_cuts(rt, &space[..size], twice)
+            try_cuts(rt, &space[..size], twice);
         }
-        Err(why) => eprintln!(rt; "{path}: {why}"),
-    };
-    let _ = tried;
+        Err(why) => {
+            let _ = eprintln!(rt; "{path}: {why}");
+        }
+    }
 }
 
 fn main(rt: HostRuntime) {
