@@ -20,8 +20,8 @@ pub fn put_places(out: &mut [u8], at: usize, rows: [Row; 16]) -> usize
     ensures { page out.new result ≡ put (page out.old at) (specs.places_of rows) }
 {
     let mut next = at;
-    for row in rows {
-        next = put_place(out, next, row);
+    for row in &rows {
+        next = put_place(out, next, *row);
     }
     next
 }

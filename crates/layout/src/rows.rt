@@ -67,8 +67,8 @@ pub fn put_rows(out: &mut [u8], at: usize, line: &[u8], rows: [Row; 16]) -> usiz
     ensures { page out.new result ≡ put (page out.old at) (specs.rows_bytes line.now rows) }
 {
     let mut next = at;
-    for row in rows {
-        next = put_row(out, next, line, row);
+    for row in &rows {
+        next = put_row(out, next, line, *row);
     }
     next
 }

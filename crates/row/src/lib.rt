@@ -41,6 +41,8 @@ impl Rows {
     };
 
     // The rows given, and behind them those that show nothing. Rows behind the sixteenth are left out.
+    // It is compiled into its callers, where the number of rows is known.
+    #[inline(always)]
     pub fn of(rows: &[Row]) -> Rows
         ensures { result ≡ rows_of rows.now }
     {
