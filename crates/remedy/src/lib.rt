@@ -9,6 +9,9 @@ use lexitem::answer::Refusal;
 use mend::{Mended, mend_line, refusal_of};
 use packing::packed;
 
+// The words that always have room: two, and one for each of 512 changes.
+const ENOUGH: usize = 514;
+
 // With too few words, the refusal of the line, or of the words where it has none.
 fn lacking(line: &[u8], room: usize) -> Refusal
     ensures { result ≡ specs.or_few_words (refusal_of line.now room) }
@@ -28,7 +31,7 @@ fn mend_behind(line: &[u8], out: &mut [u8], changes: &mut [u64]) -> Result<Mende
 pub fn mend_into(line: &[u8], out: &mut [u8], changes: &mut [u64]) -> u64
     ensures { specs.MendsInto line.now out.old changes.old result out.new changes.new }
 {
-    if changes.len() < 514 {
+    if changes.len() < ENOUGH {
         return packed(lacking(line, out.len()));
     }
     match mend_behind(line, out, changes) {
