@@ -102,3 +102,40 @@ pub struct Got<T> {
     pub value: T,
     pub faults: Faults,
 }
+
+impl<T> Got<T> {
+    // What f makes of the value, with the same faults.
+    pub fn map<U, F: FnOnce(T) -> U>(self, f: F) -> Got<U>
+        requires { F.pre f self.value }
+        ensures value { F.post f self.value result.value }
+        ensures faults { result.faults ≡ self.faults }
+    {
+        Got {
+            value: f(self.value),
+            faults: self.faults,
+        }
+    }
+}
+
+#[cfg(test)]
+mod tests {
+    use super::*;
+
+    // A number that was read becomes another sort of value, and its fault stays with it.
+    #[test]
+    fn map_keeps_faults(rt: HostRuntime) {
+        let short = Fault::new(FaultKind::Short, 6, 5);
+        let got = Got {
+            value: 7u8,
+            faults: Faults::none().note(short),
+        };
+        let mapped = got.map(|value| (value == 7, u16::from(value) * 100));
+        let (same, hundreds) = mapped.value;
+        assert!(rt; same);
+        assert_eq!(rt; hundreds, 700);
+        assert_eq!(rt; mapped.faults.count, 1);
+        assert_eq!(rt; mapped.faults.list[0].place, 6);
+        assert_eq!(rt; mapped.faults.list[0].length, 5);
+        assert_eq!(rt; mapped.faults.list[0].kind.number(), 1);
+    }
+}

@@ -38,3 +38,19 @@ module _ (T : Ended) (c : Contract T) where
   -- the same of answers as they are
   abbrev pub One : Type 2
   One = OneBy (λ κs r. r)
+
+  -- The same of a function that is handed a closure: nothing is asked of a call but what `asked` says, and where `told` holds of it, two answers that
+  -- are allowed are equal, and so are all last values.
+  abbrev pub OneWhere : (asked told : (κs : Lives T) → Args T.signature κs → Type 0) → Type 2
+  OneWhere asked told =
+      (w : World) (κs : Lives T) (a : Args T.signature κs) (g : (clauses_at w κs a).ghost) →
+      (asked κs a → ent w.𝓤 (emp w.𝓤) ((clauses_at w κs a).requires g))
+      × (told κs a → (r s : Res T.signature κs) (u v : Lasts T κs a) →
+      ent w.𝓤 (conj w.𝓤 ((clauses_at w κs a).ensures g r (at_exit T κs a u)) ((clauses_at w κs a).ensures g s (at_exit T κs a v)))
+      (fact w.𝓤 ((r ≡ s) × (u ≡ v))))
+
+  -- What the contract says of any answer that it allows: at least `told`.
+  abbrev pub Says : ((κs : Lives T) → Args T.signature κs → Res T.signature κs → Type 0) → Type 2
+  Says told =
+      (w : World) (κs : Lives T) (a : Args T.signature κs) (g : (clauses_at w κs a).ghost) (r : Res T.signature κs) (u : Lasts T κs a) →
+      ent w.𝓤 ((clauses_at w κs a).ensures g r (at_exit T κs a u)) (fact w.𝓤 (told κs a r))
