@@ -2,8 +2,8 @@
 # Every public function of a library has a theorem in its crate's proofs/Laws/Single.antt: its contract asks nothing of a caller and leaves one
 # answer, with one content of all that is lent to be written (docs/PROMISES.md, "Nothing left free"). That the theorems hold is proved with the crates.
 # Here it is held that each function has one, of its own contract and of the whole answer, or of the bytes where the answer is a view of lent ones.
-# A function that is handed a closure has one that says that it asks no more than a call of the closure does, and leaves one answer where the closure
-# does. What is excepted is listed by name, and explained there. The status is 1 if a function has none.
+# A function that takes a closure has one that says that it asks no more than a call of the closure does, and leaves one answer where the closure does.
+# What is excepted is listed by name, and explained there. The status is 1 if a function has none.
 set -eu
 cd "$(dirname "${BASH_SOURCE[0]}")/.."
 
@@ -11,7 +11,7 @@ cd "$(dirname "${BASH_SOURCE[0]}")/.."
 excepted="stream::list_input stream::list_from stream::input::read_some stream::reason::fail intake::read_full"
 
 # The public functions of a file, one a line: the type that it is a method of, if any, with a dot behind it, the name, what it answers, and `closure` if
-# it is handed one, or else `plain`.
+# it takes one, or else `plain`.
 functions() {
     awk '
         /^impl/ { owner = $0; sub(/^impl(<[^>]*>)? /, "", owner); sub(/[^A-Za-z0-9_].*/, "", owner); owner = owner "." }
@@ -48,8 +48,8 @@ statements() {
 }
 
 # theorem FILE PATH ANSWER SORT: whether the file states it of the function's own contract, which the checker makes of its clauses. Of a function with a
-# const parameter it is stated for each number, and of one with a closure for all types of the value, the answer and the closure: what is asked is that
-# they outlive the call, which Rust has of every call, and that the closure may be called (`pre`), and what is told that there its answers are one (`post`).
+# const parameter it is stated for each number, and of one with a closure for all types of the value, the answer and the closure. Asked is that the types
+# outlive the call, as Rust has it of every call, and that the closure may be called (`pre`). Where its answers are one (`post`), so are the function's.
 theorem() {
     local file=$1 contract="its.$2.ended (λ M 𝓤. its.$2.clauses)" said each stated path
     stated=$(statements "$file")
